@@ -19,6 +19,7 @@ _cvr_audit() {
     --as) compopt +o default; COMPREPLY=($(compgen -W 'vxsuite cdf dominion dominion-json ess hart clearballot' -- "$2")); return ;;
     --contests) compopt +o default; return ;;
     --left-out) compopt +o default; return ;;
+    --means) compopt +o default; return ;;
     --device) compopt +o default; return ;;
     --votes) compopt +o default; return ;;
     --heads) compopt +o default; COMPREPLY=($(compgen -W 'choice:party party:choice choice' -- "$2")); return ;;
@@ -36,7 +37,7 @@ _cvr_audit() {
     why:-*) COMPREPLY=($(compgen -W '--format -o --files-from --null -h --help' -- "$2")) ;;
     writeins:-*) COMPREPLY=($(compgen -W '--files-from --null -h --help' -- "$2")) ;;
     definition:-*) COMPREPLY=($(compgen -W '--test -o --files-from --null -h --help' -- "$2")) ;;
-    gather:-*) COMPREPLY=($(compgen -W '-o --as --test --incomplete --manifest --contests --left-out --device --votes --heads --files-from --null -h --help' -- "$2")) ;;
+    gather:-*) COMPREPLY=($(compgen -W '-o --as --test --incomplete --manifest --contests --left-out --means --device --votes --heads --files-from --null -h --help' -- "$2")) ;;
     journal:-*) COMPREPLY=($(compgen -W '--verify -h --help' -- "$2")) ;;
     esac
 }

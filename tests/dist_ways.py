@@ -158,7 +158,8 @@ class Tree:
 
 
 def may_be_stopped():
-    signal.signal(signal.SIGINT, signal.SIG_DFL)    # which the background of a shell ignores
+    for it in signal.SIGINT, signal.SIGHUP:         # which the background of a shell ignores, and nohup
+        signal.signal(it, signal.SIG_DFL)
 
 
 def replace(path, how):

@@ -5,8 +5,7 @@ const at = id => document.getElementById(id)
 const HELD = JSON.parse(at('held').textContent)         // of the tool: the sentences of FAULTS, and the example
 const own = '<!DOCTYPE html>' + document.documentElement.outerHTML      // before anything of it changes: the file's text
 const RULES = HELD.rules        // of cvr-audit gather
-const sources = []              // all that was given, with what is in a ZIP
-let files = [], is_export = false       // of these the ones that are tallied, or the whole export
+const TITLE = document.title
 let compiled, own_sums, working = null
 
 function element(tag, more, ...parts) {
@@ -23,13 +22,14 @@ const say = (said, is_bad) => { at('state').textContent = said; at('state').clas
 
 // ---- the worker
 
-// Has a new worker read files and run commands, or gather an export, and ends it then; so nothing of one run reaches the next.
-function work(given, runs) {
+// Has a new worker read files and run commands, or look for the definition, or gather an export, and ends it then; so nothing of
+// one run reaches the next.
+function work(given, asked) {
   const url = URL.createObjectURL(new Blob([at('worker').textContent], {type: 'text/javascript'})), worker = new Worker(url)
   const done = new Promise((answer, refuse) => {
     worker.onmessage = ({data}) => data.step ? say(data.step) : data.fault ? refuse(data) : answer(data)
     worker.onerror = it => refuse({fault: 'program', said: it.message})
-    worker.postMessage({compiled, files: given, runs, rules: RULES})
+    worker.postMessage({compiled, files: given, ...asked, rules: RULES})
   }).finally(() => { worker.terminate(); URL.revokeObjectURL(url) })
   return {done, worker}
 }
@@ -39,10 +39,8 @@ const FAULTS = {
   file: ({path, said}) => `${path} can't be read (${said}). Was it changed or moved since? Remove all files, and give them again.`,
   unfit: ({said}) => `${said}. Nothing is shown.`,
   program: ({said}) => `The program stopped: ${said}. Nothing is shown.`,
+  field: ({field, said}) => (at(field + '-said').textContent = ` ${said} `, `${said} Nothing is saved.`),
 }
-
-const given = (path, file) => ({path, file, size: file.size})
-const empty = path => ({path: path + '/', file: null, size: 0})      // a folder without files
 
 // ---- the start
 
@@ -58,7 +56,7 @@ async function start() {
   compiled = await WebAssembly.compile(module)
   own_sums = {module: await hex(module), page: await hex(new TextEncoder().encode(own))}
   const example = Object.entries(HELD.example).map(([path, it]) => given(path, new Blob([it])))
-  const {answers: [version, tally]} = await work(example, [['--version'], ['tally', ...Object.keys(HELD.example)]]).done
+  const {answers: [version, tally]} = await work(example, {runs: [['--version'], ['tally', ...Object.keys(HELD.example)]]}).done
   if (tally.sum !== HELD.sum) throw new Error('it gives another tally of its own example than it has to')
   at('version').textContent = HELD.version = new TextDecoder().decode(version.text).trim()
   at('give').hidden = false
@@ -67,53 +65,19 @@ async function start() {
 
 // ---- files
 
-const isBelow = it => it.path.includes('/'), isJson = it => /\.json$/i.test(it.path), byPath = (a, b) => byText(a.path, b.path)
-
-// What is given, with the files of a ZIP in its place.
-async function opened(more) {
-  const found = []
-  for (const it of more) {
-    const is_zip = it.file && !isBelow(it) && await isZip(it.file)
-    for (const one of is_zip ? (await sourcesIn(it.path, it.file)).sort(byPath) : [it]) {
-      if (isBelow(one) && /\.zip$/i.test(one.path)) throw new Unfit(one.path, RULES.WITHIN)
-      found.push(one)
-    }
-  }
-  return found
-}
-
-// Whether a source stands at the head of an export of VxSuite.
-async function isOfExport(it) {
-  return it.file && baseOf(it.path) === RULES.METADATA && new TextDecoder().decode(await bytesOf(it, RULES.HEAD)).includes(RULES.FRAME)
-}
-
-// Adds to what was given; of an export all is taken, else of a folder or a ZIP what may be a report.
-async function add(more) {
-  const held = new Set(sources.map(it => it.path)), twice = []
-  say('Reading what was given')
-  for (const it of await opened(more)) {
-    if (held.has(it.path)) twice.push(it.path)
-    else sources.push(it)
-    held.add(it.path)
-    is_export ||= await isOfExport(it)
-  }
-  files = is_export ? sources : sources.filter(it => it.file && (!isBelow(it) || isJson(it)))
-  at('definition').replaceChildren(...(is_export ? [] : files).map(it => element('option', {value: it.path}, it.path)))
-  at('definition').parentElement.hidden = is_export
-  const guessed = files.findIndex(it => /def[^/]*$/i.test(it.path))
-  if (guessed >= 0) at('definition').selectedIndex = guessed
-  at('tally').disabled = files.length < 2
-  const said = is_export ? `An export of VxSuite: ${files.length} files.` : `${files.length} files.`
-  say(said + (twice.length ? ` Not added, since another file has the same name: ${twice.join(', ')}. Give a folder that has both.` : ''), twice.length)
-}
+let before = Promise.resolve()  // what was given before, which is added first
 
 // Adds what a call finds, and says why it can't.
-async function take(call) {
-  try {
-    await add(await call())
-  } catch (fault) {
-    say(`What was given can't be read: ${fault instanceof Unfit ? fault.message : fault}. Nothing of it is added.`, true)
-  }
+function take(call) {
+  const found = (async () => call())()
+  before = before.then(async () => {
+    try {
+      await add(await found)
+    } catch (fault) {
+      offer()
+      say(`What was given can't be read: ${fault instanceof Unfit ? fault.message : fault}. Nothing of it is added.`, true)
+    }
+  })
 }
 
 // The files below what was dropped, each with its path. On a page from a disk Chromium opens no folder by its entry, and
@@ -166,12 +130,35 @@ function seeGathered({files, places, count}, states, seen) {
 }
 
 // What the command line makes of the same files.
-function commandsOf(made, paths) {
-  const tally = commandOf(['cvr', 'tally', '--', ...paths]), roots = [...new Set(sources.map(it => it.path.split('/')[0]))]
-  return made ? `${commandOf(['cvr-audit', 'gather', ...roots, '-o', 'gathered'])}\n${tally}` : tally
+function commandsOf({made, definition, files}) {
+  const tally = commandOf(['cvr', 'tally', '--', ...files.map(it => it.path)]), roots = [...new Set(sources.map(it => rootOf(it.path)))]
+  if (made) return `${commandOf(['cvr-audit', 'gather', ...roots, '-o', 'gathered'])}\n${tally}`
+  return definition.used ? `${commandOf(['cvr-audit', 'definition', '-o', files[0].path, '--', ...definition.used])}\n${tally}` : tally
 }
 
-const run = (its, runs) => (working = work(its, runs)).done
+const run = (its, asked) => (working = work(its, asked)).done
+
+// ---- the definition
+
+const MADE = 'made-definition.json'
+
+// The files, the definition first, and why that is the one; its records count, so a file of records stands twice. Without one all files
+// are refused.
+async function withDefinition() {
+  const named = at('definition').value || null, its = await run(files, {named})
+  if (its.path === null) return withMade(its)
+  const first = files.find(it => it.path === its.path), rest = files.filter(it => it !== first)
+  const why = named !== null ? 'it was chosen' : files.length > 1 ? 'it is the only file without a record' : 'it is the only file'
+  const records = its.has_records ? ' Its records are counted, as those of a file.' : ''
+  return {files: [first, ...its.has_records ? [first] : [], ...rest], definition: {said: `Definition: ${its.path}, since ${why}.${records}`, counts: its.has_records}}
+}
+
+function withMade({states, sums, made, without}) {
+  const few = without ? `${without} reports are without a record` : 'no report is without a record', used = files.filter((_, at) => !states[at].fault).map(it => it.path)
+  if (!made) return {files, definition: {said: 'Each file was refused, so none is the definition.'}, refused: {states, sums}}
+  const held = new Set(files.map(it => it.path)), names = [MADE, ...files.map((_, at) => `${at + 2}-${MADE}`)], path = names.find(it => !held.has(it))
+  return {files: [given(path, made), ...files], definition: {used, said: `Definition: ${path}, made of ${countedAs(used.length, 'report')} as cvr-audit definition makes it, since ${few}.`}}
+}
 
 // Shows that something runs, and says why it stops.
 async function busily(act) {
@@ -186,33 +173,87 @@ async function busily(act) {
 }
 
 // Saves a volume of `cvr merge`, of the files that were tallied.
-async function saveVolume({files, sums}, date, device, number) {
+async function saveVolume({files, sums, volumes}, date, device, number) {
+  if (!isVolume(number, volumes)) throw volumeFault('', number, volumes)
   const paths = files.map(it => it.path), words = ['merge', '--', paths[0], date, device, number, ...paths.slice(1)]
-  const {answers: [{text, log}], sums: now} = await run(files, [words]), changed = paths.find((_, at) => sums[at] !== now[at])
+  const {answers: [{text, log}], sums: now} = await run(files, {runs: [words]}), changed = paths.find((_, at) => sums[at] !== now[at])
   if (changed) throw {fault: 'file', path: changed, said: 'it is another than was tallied'}
-  if (!text.length) throw {fault: 'program', said: log.trim()}
+  if (!text.length) throw volumeFault(log, number, volumes)
   save(`volume-${number}.json`, text, 'application/json')
   say('Saved, as by: ' + commandOf(['cvr', ...words]))
 }
 
+// Runs the commands over files, of which the first is the definition; answers what they say.
+async function answerOf({files, made, definition}) {
+  const paths = files.map(it => it.path), words = task => [task, '--', ...paths]
+  const its = await run(files, {runs: [['check', '--', paths[0], ...paths], words('tally'), words('conflicts'),
+    ['merge', '--', paths[0], DATE, null, '1', ...paths.slice(1)]]})
+  const {first, states, said, answers, seen} = its, failed = answers.find(it => it.status > 1)
+  if (failed) throw {fault: failed.status === 4 ? 'memory' : 'program', said: failed.log}
+  if (said.mixed) throw {fault: 'unfit', said: said.mixed}
+  if (states[0].records && !definition.counts) throw {fault: 'program', said: 'the definition has records that were not counted'}
+  if (made) seeGathered(made, states, seen)
+  return {...its, tally: {...answers[1], text: new TextDecoder().decode(answers[1].text), bytes: answers[1].text}, report: first === null ? null : valueOf(first)}
+}
+
+// What isn't in a tally: of the files those that were refused, and the rest of what was given.
+function outOf({states, files}, rest) {
+  const refused = []
+  for (const [at, it] of states.entries()) {
+    if (!it.fault) continue
+    refused.push({path: files[at].path, reason: inALine(stateOf(it, files[at].path, false))})
+  }
+  return [...refused, ...rest.map(({path, reason}) => ({path, reason}))]
+}
+
+// The lines that say that a tally isn't whole.
+function incompleteIn({states, refused}, rest) {
+  const some = refused ? states : states.slice(1), count = some.filter(it => it.fault).length, held = rest.filter(it => it.holds).length
+  return [...count ? [`INCOMPLETE: ${count} of ${countedAs(some.length, 'file')} ${count === 1 ? 'was' : 'were'} refused`] : [],
+    ...held ? [`INCOMPLETE: ${countedAs(held, 'file')} that ${held === 1 ? 'seems' : 'seem'} to have records ${held === 1 ? 'is' : 'are'} not in this tally`] : []]
+}
+
+// Why there is no tally, or null.
+function lackOf({states, refused, report}) {
+  if (!refused && !report) return 'The definition was refused'
+  const some = refused ? states : states.slice(1)
+  return some.every(it => it.fault) ? some.length ? 'Each file was refused' : 'Only a definition was given' : null
+}
+
+// All that is shown of what was given.
+async function wholeAnswer(stopped) {
+  const gathered = is_export ? await run(sources, {}) : null
+  const its = gathered ? {files: gathered.files, made: gathered, definition: {said: null}} : await withDefinition()
+  const rest = gathered ? await outsideExport(gathered.left) : await outside()
+  await stopped()
+  const answer = {...its, ...its.refused ? {...its.refused, said: {lines: []}, report: null} : await answerOf(its)}
+  const incomplete = incompleteIn(answer, rest)
+  answer.said.lines.unshift(...incomplete)
+  const out = outOf(answer, rest)
+  await stopped()
+  return {...answer, out, incomplete, lack: lackOf(answer), command: answer.refused ? null : commandsOf(its), twins: twinsSaid(), manifest}
+}
+
+let turn = 0        // of the tally that runs, or ran last
+
 async function tally() {
-  const definition = files[at('definition').selectedIndex]
-  at('answer').replaceChildren()
+  const now = ++turn, stopped = () => now === turn ? null : new Promise(() => {})        // a tally that was cancelled goes on no more
+  stale()
   await busily(async () => {
-    const made = is_export ? await run(sources) : null, all = made ? made.files : [definition, ...files.filter(it => it !== definition)]
-    const paths = all.map(it => it.path), words = task => [task, '--', ...paths]
-    const {first, sums, states, repeated, said, answers, seen, unseen, disagreements, volumes} = await run(all, [['check', '--', paths[0], ...paths], words('tally'), words('conflicts'),
-      ['merge', '--', paths[0], DATE, null, '1', ...paths.slice(1)]])
-    const tally = {...answers[1], text: new TextDecoder().decode(answers[1].text), bytes: answers[1].text}
-    const failed = answers.find(it => it.status > 1)
-    if (failed) throw {fault: failed.status === 4 ? 'memory' : 'program', said: failed.log}
-    if (said.mixed) throw {fault: 'unfit', said: said.mixed}
-    const is_read = states[0].records !== undefined
-    if (made) seeGathered(made, states, seen)
-    show({made, said, files: all, states, sums, repeated, seen, unseen, disagreements, volumes, tally, report: is_read ? valueOf(new TextDecoder().decode(first)) : null,
-      command: commandsOf(made, paths)})
-    say(is_read ? 'Done.' : 'The definition was refused, so there is no tally.', !is_read)
+    at('cancel').focus()
+    const answer = await wholeAnswer(stopped), {incomplete, lack} = answer
+    show(answer)
+    say([...incomplete, ...lack ? [lack + ', so there is no tally'] : incomplete.length ? [] : ['Done']].map(it => it + '.').join(' '), incomplete.length || lack)
   })
+  const head = at('answer').querySelector('h1')
+  ;(head ?? at('tally')).focus({preventScroll: true})
+  head?.parentElement.scrollIntoView({block: 'nearest'})
+}
+
+// Takes away a result that isn't of what is given now.
+function stale() {
+  at('answer').replaceChildren()
+  document.title = TITLE
 }
 
 function busy(is_busy) {
@@ -222,8 +263,10 @@ function busy(is_busy) {
 
 function cancel() {
   working.worker.terminate()
+  turn++
   busy(false)
   say('Cancelled. Nothing is shown.')
+  at('tally').focus()
 }
 
 // A field is emptied, so that the same files can be chosen again.
@@ -235,10 +278,13 @@ function chosen({target}, pathOf) {
 
 at('files').onchange = event => take(() => chosen(event, it => it.name))
 at('folder').onchange = event => take(() => chosen(event, it => it.webkitRelativePath).sort(byPath))
+at('manifest').onchange = event => take(async () => { say('Reading the manifest'); await giveManifest(...chosen(event, it => it.name)); return [] })
 at('drop').ondragover = event => { event.preventDefault(); at('drop').className = 'over' }
 at('drop').ondragleave = () => { at('drop').className = '' }
 at('drop').ondrop = event => { event.preventDefault(); at('drop').className = ''; take(() => dropped(event)) }
 at('tally').onclick = tally
 at('cancel').onclick = cancel
-at('clear').onclick = () => { sources.length = 0; is_export = false; at('answer').replaceChildren(); add([]) }
+at('clear').onclick = () => { sources.length = 0; manifest = null; twins.clear(); take(() => []) }
+at('definition').onchange = () => { stale(); settle() }
+at('list').ontoggle = drawList
 start().catch(fault => say(`This page can't work in this browser: ${fault.fault ? FAULTS[fault.fault](fault) : fault.message}`, true))

@@ -99,21 +99,68 @@ function votesOf(contest) {
   return held
 }
 
+// What a contest adds to the columns, and to the votes of each selection.
+function addedBy(contest) {
+  const votes = votesOf(contest), columns = {overvotes: contest.Overvotes ?? 0, undervotes: contest.Undervotes ?? 0, 'write-ins': contest.WriteIns ?? 0,
+    pending: sumOf(positionsOf(contest).map(one => one.pending)), unassigned: votes.get(null) ?? 0n}
+  votes.delete(null)
+  return {columns, votes}
+}
+
 // Of a snapshot what each contest adds, without what is 0; ABSENT for one that it doesn't have.
 function readingsOf(snapshot, contests) {
   const held = new Map((snapshot.CVRContest ?? []).map(it => [it.ContestId, it]))
   return [...contests.keys()].map(key => {
     const it = held.get(key)
     if (!it) return ABSENT
-    const votes = votesOf(it), columns = {overvotes: it.Overvotes ?? 0, undervotes: it.Undervotes ?? 0, 'write-ins': it.WriteIns ?? 0,
-      pending: sumOf(positionsOf(it).map(one => one.pending)), unassigned: votes.get(null) ?? 0n}
-    votes.delete(null)
+    const {columns, votes} = addedBy(it)
     return compact(Object.fromEntries([...Object.entries(columns), ...votes].filter(([, number]) => BigInt(number))))
   })
 }
 
 // Where the names of records stand in the parts of a line, behind its kind.
 const RECORDS = {exceeds: 2, doubled: 3, waiting: 1, record: 1, ballot: 2}
+
+// Whether a person or a moment stands with a snapshot. A machine's own one has neither, whatever its Type.
+const isAdjudication = it => (it.Annotation ?? []).some(one => one.AdjudicatorName?.length || one.TimeStamp !== undefined)
+
+const oneMore = (counts, key) => counts.set(key, (counts.get(key) ?? 0) + 1)
+
+// The records that count: by unit, device, batch and BallotSheetId; by the Type of their current snapshots; and how many of
+// these are adjudications.
+class Ballots {
+  constructor() {
+    this.sizes = new Map()
+    this.types = new Map()
+    this.adjudicated = 0
+  }
+
+  take(record, current) {
+    const group = spelled([record.BallotStyleUnitId ?? null, record.CreatingDeviceId, record.BatchId ?? null])
+    if (!this.sizes.has(group)) this.sizes.set(group, new Map())
+    oneMore(this.sizes.get(group), record.BallotSheetId ?? null)
+    oneMore(this.types, current.Type)
+    this.adjudicated += isAdjudication(current)
+  }
+}
+
+// What the ballots with a contest add up to on each device: the numbers of a row of the tally. Also how many of them have
+// overvotes or undervotes, and how many count by an adjudication.
+class Marked {
+  constructor(contest) {
+    this.selections = (contest.ContestSelection ?? []).map(it => it['@id'])
+    this.devices = new Map()
+    this.having = new Map(STATED.map(it => [it, 0]))
+    this.adjudicated = 0
+  }
+
+  take(device, contest, {columns, votes}, is_adjudicated) {
+    const added = [1, ...Object.values(columns), ...this.selections.map(it => votes.get(it) ?? 0)], held = this.devices.get(device) ?? added.map(() => 0n)
+    this.devices.set(device, held.map((it, at) => it + BigInt(added[at])))
+    for (const it of STATED) if (contest[it] > 0) oneMore(this.having, it)
+    this.adjudicated += is_adjudicated
+  }
+}
 
 // Of a current snapshot: its id; the latest moment that stands with it; whether one does, and nobody's name, or neither; which
 // files have the record, and which of them have the snapshot.
@@ -125,7 +172,7 @@ function originOf(current) {
 }
 
 // What volume 1 says of the records, and then each file: their number, warnings of them, the greatest Rank of each contest and
-// its votes by Rank, and which contests have which number stated.
+// its votes by Rank, which contests have which number stated, and what the ballots add up to.
 class Seen {
   constructor(conflicts, contests) {
     this.conflicts = conflicts
@@ -139,7 +186,9 @@ class Seen {
     this.undone = []
     this.waiting = []
     this.empty = []
-    this.ballots = []
+    this.audited = []       // each BallotAuditId with the name of its record
+    this.ballots = new Ballots()
+    this.marked = new Map([...contests].map(([key, it]) => [key, new Marked(it)]))
   }
 
   take(record) {
@@ -147,16 +196,21 @@ class Seen {
     this.records.set(spelled(name), originOf(current))
     if (contests) this.waiting.push(['waiting', ...[...name, ...contests].map(spelled)])
     if (!current.CVRContest?.length) this.empty.push(['record', ...name.map(spelled)])
-    if (record.BallotAuditId !== undefined) this.ballots.push([record.BallotAuditId, name])
+    if (record.BallotAuditId !== undefined) this.audited.push([record.BallotAuditId, name])
     for (const [contest, ranks] of ranksIn(current)) for (const it of ranks) if (!(it <= this.greatest.get(contest))) this.greatest.set(contest, it)
     for (const it of record.CVRSnapshot) this.takeStated(it)
-    for (const it of current.CVRContest ?? []) this.takeVotes(it, name.map(spelled))
+    this.ballots.take(record, current)
+    for (const it of current.CVRContest ?? []) {
+      const added = addedBy(it)
+      this.marked.get(it.ContestId).take(record.CreatingDeviceId, it, added, isAdjudication(current))
+      this.takeVotes(it, added, name.map(spelled))
+    }
     this.conflicts.shows({CVR: [record]})
   }
 
   // Notes the votes of a contest: by rank, and as lines where no ballot has so many, in all or for one selection.
-  takeVotes(contest, name) {
-    const key = contest.ContestId, its = this.contests.get(key), votes = votesOf(contest), counted = sumOf([...votes.values()]), by_rank = this.ranks.get(key) ?? new Map()
+  takeVotes(contest, {columns, votes}, name) {
+    const key = contest.ContestId, its = this.contests.get(key), counted = sumOf([...votes.values(), columns.unassigned]), by_rank = this.ranks.get(key) ?? new Map()
     const stated = isNumber(its.VotesAllowed) ? its.VotesAllowed : 0, most = 'VotesAllowed' in its ? stated : ONE.includes(its['@type']) ? 1 : 0
     if (most > 0 && counted > BigInt(most)) this.excess.get(key).push(['exceeds', spelled(key), ...name, counted, most])
     for (const it of SEVERAL.includes(its.VoteVariation) ? [] : its.ContestSelection ?? [])
@@ -211,11 +265,11 @@ class Seen {
   }
 
   ended() {
-    const twice = several(this.ballots, it => it[0]).map(([ballot, its]) => ['ballot', spelled(ballot), ...its.flatMap(it => it[1]).map(spelled)])
+    const twice = several(this.audited, it => it[0]).map(([ballot, its]) => ['ballot', spelled(ballot), ...its.flatMap(it => it[1]).map(spelled)])
     for (const it of this.conflicts.ended()) if (it.name[0] === 'snapshot') for (const {value} of it.texts) this.takeStated(value)
     const excess = [...this.excess].flatMap(([key, its]) => isRanked(this.contests.get(key), this.greatest) ? [] : its)
     const lines = [...this.decided(), ...this.undone, ...excess, ...this.waiting, ...this.empty, ...twice]
-    return {count: this.records.size, greatest: this.greatest, ranks: this.ranks, stated: this.stated, lines, files: this.filesOf(lines)}
+    return {count: this.records.size, greatest: this.greatest, ranks: this.ranks, stated: this.stated, ballots: this.ballots, marked: this.marked, lines, files: this.filesOf(lines)}
   }
 
   // Of each kind of lines about records the files that have these, each with the number of the lines.
@@ -298,5 +352,6 @@ function looked(paths, read, check, printed, volume) {
     if (at) seen?.takeFile(path, report)
     return repeatedIn(report)
   })
-  return {states, repeated, said: {mixed: said.mixed(), lines: said.lines()}, seen: seen?.ended() ?? null, disagreements: conflicts.ended(), volumes: Number(/\d+\n$/.exec(printed)?.[0] ?? 0)}
+  tellWhy(paths, states, read)
+  return {states, repeated, said: {mixed: said.mixed(), lines: said.lines()}, seen: seen?.ended() ?? null, disagreements: shownBeside(conflicts.ended()), volumes: Number(/\d+\n$/.exec(printed)?.[0] ?? 0)}
 }

@@ -66,12 +66,20 @@ function judged(paths, text, log) {
   })
 }
 
-// What a fault means, and what to do, in the sentences of FAULTS.
-function inWords(fault, faults) {
+// A text as it is shown: of a long one the beginning.
+const SHORT = 500, shortOf = it => it.length > SHORT ? it.slice(0, SHORT) + '…' : it
+
+// The code of a fault, its place, and its rule, as far as it has them.
+function partsOfFault(fault) {
   const [code, ...rest] = fault.split(' '), rule = code === 'E3' ? rest.pop() : null
-  const [meaning, todo] = faults.codes[code === 'memory' ? 'L4' : code]
-  const place = rest.join(' ') || (rule && 'the whole file')
-  return {code, place, meaning: rule ? faults.rules[rule][0] : meaning, todo: rule ? faults.rules[rule][1] : todo}
+  return {code, rule, place: rest.join(' ')}
+}
+
+// What the fault of a file means, and what to do, in the sentences of cvr-audit.
+function inWords(fault, faults) {
+  const {code, rule, place} = partsOfFault(fault), [what, todo] = faults.codes[code]
+  const said = [rule && faults.rules[rule], shortOf(place) || (rule && faults.whole)].filter(it => it).join(', at ')
+  return {code, meaning: (said ? `${what}: ${said}` : what) + '.', todo}
 }
 
 // Whether the votes of a contest are ranks or scores.
@@ -82,17 +90,9 @@ function commandOf(words) {
   return words.map(it => /^[\w@%+=:,./-]+$/.test(it) ? it : `'${it.replace(/'/g, `'"'"'`)}'`).join(' ')
 }
 
-// The rows as CSV, one line for each number of votes; a cell that a table would take for a formula begins with an apostrophe.
-function csvOf(rows, shown) {
-  const cell = it => it === null ? '' : `"${String(it).replace(/^[=+\-@\t\r]/, `'$&`).replace(/"/g, '""')}"`
-  const lines = [['contest', 'unit', 'batch', 'number of', 'selection', 'number']]
-  for (const {contest, unit, batch, selections, numbers} of rows)
-    numbers.forEach((it, at) => lines.push([contest, unit, batch, at < COLUMNS.length ? COLUMNS[at].toLowerCase() : 'votes',
-      at < COLUMNS.length ? null : selections[at - COLUMNS.length], shown(contest, at, it)]))
-  return lines.map(it => it.map(cell).join(',') + '\r\n').join('')
-}
-
 // ---- JSON
+
+const QUOTE = 0x22, COMMA = 0x2c, COLON = 0x3a, ARRAY = 0x5b, BACKSLASH = 0x5c, ARRAY_END = 0x5d, OBJECT = 0x7b, OBJECT_END = 0x7d     // as bytes
 
 const LONG = /[:,[]\s*-?\d{16}/      // where a number may be too long for JavaScript; perhaps in a text
 

@@ -31,8 +31,8 @@ function lineOf(bytes) {
 }
 
 // The text of a source. It has no half of a pair of surrogates, which would be no sign.
-async function textOf(source) {
-  const bytes = await bytesOf(source, source.size)
+async function textOf(source, piece) {
+  const bytes = await bytesOf(source, source.size, piece)
   let text
   try {
     text = new TextDecoder('utf-8', {fatal: true}).decode(bytes)
@@ -102,13 +102,13 @@ class Union {
   }
 }
 
-const textOfReport = report => JSON.stringify(report, null, 1) + '\n'
+const textOfReport = report => JSON.stringify(report, (_, it) => typeof it === 'bigint' ? JSON.rawJSON(`${it}`) : it, 1) + '\n'
 
 // Stops where cvr doesn't accept a report without its records.
 async function seeFrame(compiled, path, frame) {
   const text = new Blob([textOfReport(frame)]), words = ['check', '--', 'definition.json']
   const held = new Files(new Module(compiled), [{path: 'definition.json', file: text, size: text.size}], [words])
-  await held.read(0)
+  held.put(await bytesOf(held.files[0], HELD))
   const {status, log} = held.run(words)
   if (status === 1) throw new Unfit(path, filled(RULES.REFUSED, log.trim().split(': ').at(-1).replace(' /', ` /${RULES.FRAME}/`)))
   if (status) throw status === 4 ? new Refused() : new Error(log)
@@ -177,22 +177,31 @@ function seeBallots(exports, sources, held) {
   }
 }
 
-// The only record of a report: its own text.
-async function recordIn(source) {
-  const text = await textOf(source), report = parsed(source.path, text), records = isObject(report) ? report.CVR : null
-  const its = /^\s*\{\s*"(?:[^"\\]|\\.)*"\s*:\s*\[([^]*)\]\s*\}\s*$/.exec(text), stop = (said, place) => { throw new Unfit(source.path, said, place) }
-  if (!its || !Array.isArray(records) || records.length !== 1) stop(RULES.NO_ONE_RECORD)
-  for (const name of ['CreatingDeviceId', 'UniqueId']) {
-    if (!isObject(records[0]) || !Object.hasOwn(records[0], name)) stop(filled(RULES.UNNAMED, name), '/CVR/0')
-    if (typeof records[0][name] !== 'string') stop(filled(RULES.NO_NAME, name), '/CVR/0')
-  }
+const ONE_MEMBER = /^[ \t\r\n]*\{[ \t\r\n]*("(?:[^"\\]|\\.)*")[ \t\r\n]*:[ \t\r\n]*\[([^]*)\][ \t\r\n]*\}[ \t\r\n]*$/
+
+// The only record of a report, and its text; null where that isn't all that the report has.
+function onlyRecord(text) {
+  const [, name, its] = ONE_MEMBER.exec(text) ?? []
   try {
-    JSON.parse(its[1])
-  } catch (fault) {       // more than one member
+    return its && JSON.parse(name) === 'CVR' ? {record: JSON.parse(its), text: its.trim()} : null
+  } catch (fault) {       // more than one record, or more than one member, or no JSON
+    return null
+  }
+}
+
+// The only record of a report: the bytes of its own text.
+async function recordIn(source, piece) {
+  const text = await textOf(source, piece), its = onlyRecord(text), stop = (said, place) => { throw new Unfit(source.path, said, place) }
+  if (!its) {
+    parsed(source.path, text)
     stop(RULES.NO_ONE_RECORD)
   }
-  const batch = own(records[0], 'BatchId')
-  return {text: its[1].trim(), name: nameOf(records[0]).map(spelled).join(' '), batch: typeof batch === 'string' ? batch : null}
+  const {record} = its, batch = own(record, 'BatchId')
+  for (const name of ['CreatingDeviceId', 'UniqueId']) {
+    if (!isObject(record) || !Object.hasOwn(record, name)) stop(filled(RULES.UNNAMED, name), '/CVR/0')
+    if (typeof record[name] !== 'string') stop(filled(RULES.NO_NAME, name), '/CVR/0')
+  }
+  return {bytes: new TextEncoder().encode(its.text), name: nameOf(record).map(spelled).join(' '), batch: typeof batch === 'string' ? batch : null}
 }
 
 // The records in files, each behind those before it.
@@ -203,8 +212,8 @@ class Records {
     this.room = 0
   }
 
-  add(path, {text, name}) {
-    const bytes = new TextEncoder().encode(text), count = bytes.length + 2
+  add(path, {bytes, name}) {
+    const count = bytes.length + 2
     if (this.names.has(name)) throw new Unfit(path, filled(RULES.ELSEWHERE, name, this.names.get(name), '/CVR/0'), '/CVR/0')
     this.names.set(name, path)
     if (count > this.room) {
@@ -227,10 +236,18 @@ class Records {
 
 // ---- the export
 
-const TOGETHER = 64     // reports that are read at once, since each has a browser wait
-
 const isRead = path => baseOf(path) === RULES.METADATA || baseOf(path) === RULES.REPORT && !isRejected(folderOf(path))
 const isLeft = ({path}) => !isRead(path) && !(RULES.IMAGES.some(it => path.endsWith(it)) && !isRejected(folderOf(path)))
+
+// What each report has, or why it is refused, by its path.
+async function recordsIn(reports, tell) {
+  const held = new Map()
+  for await (const [{path}, it] of settledOf(groupsOf(reports), recordIn)) {
+    if (held.size % TOGETHER === 0) tell(path, `Reading ballot ${held.size + 1} of ${reports.length}`)
+    held.set(path, it)
+  }
+  return held
+}
 
 // The definition and the files of records that an export gives; how many records it has, counted by folders; what is left out;
 // and of each file of records the sources of these.
@@ -244,16 +261,14 @@ async function gathered(sources, compiled, tell) {
   }
   for (const it of of(RULES.METADATA)) union.take(it.path, await frameIn(it, saids.get(it.path), compiled, notes, said))
   seeBallots(came, all, held)
-  for (let from = 0; from < reports.length; from += TOGETHER) {
-    const some = reports.slice(from, from + TOGETHER)
-    for (const [at, it] of (await Promise.allSettled(some.map(recordIn))).entries()) {
-      tell(some[at].path, at ? null : `Reading ballot ${from + 1} of ${reports.length}`)
-      const batches = came.get(folderOf(folderOf(some[at].path)))
-      if (!batches) throw new Unfit(some[at].path, RULES.NO_METADATA)
-      if (it.reason) throw it.reason
-      out.add(some[at].path, it.value)
-      batches.set(it.value.batch, (batches.get(it.value.batch) ?? 0) + 1)
-    }
+  const records = await recordsIn(reports, tell)
+  for (const {path} of reports) {
+    tell(path, null)
+    const batches = came.get(folderOf(folderOf(path))), {reason, value} = records.get(path)
+    if (!batches) throw new Unfit(path, RULES.NO_METADATA)
+    if (reason) throw reason
+    out.add(path, value)
+    batches.set(value.batch, (batches.get(value.batch) ?? 0) + 1)
   }
   for (const [path, it] of saids) {
     seeClosed(path, it)

@@ -14,7 +14,7 @@ function* fileWarnings(files, states, sums, repeated, seen) {
   if (all > seen.count) yield ['counted', all, seen.count, 'again', again, 'elsewhere', all - seen.count - again]
 }
 
-// Of the rows of the tally, with how many votes a ballot has in each contest.
+// Of the rows of the tally, with how many votes a ballot has in each contest but those of ranks, of which a row has all.
 function* rowWarnings(rows, allowed) {
   for (const {contest, unit, batch, numbers} of rows) {
     const [ballots, overvotes, undervotes, , pending, unassigned] = numbers, most = allowed.get(contest)
@@ -38,9 +38,12 @@ function* contestWarnings(contests, rows, seen) {
   }
 }
 
-function warningsOf({files, states, sums, repeated, seen}, contests, rows) {
-  const allowed = new Map(contests.filter(it => isNumber(it.VotesAllowed) && it.VotesAllowed > 0).map(it => [it['@id'], BigInt(it.VotesAllowed)]))
-  return [...fileWarnings(files, states, sums, repeated, seen), ...rowWarnings(rows, allowed), ...contestWarnings(contests, rows, seen), ...seen?.lines ?? []]
+// How many votes a ballot has in each contest, where the definition states it.
+const allowedBy = contests => new Map(contests.filter(it => isNumber(it.VotesAllowed) && it.VotesAllowed > 0).map(it => [it['@id'], BigInt(it.VotesAllowed)]))
+
+function warningsOf({files, states, sums, repeated, seen, manifest}, contests, rows) {
+  const batches = manifest && seen ? batchWarnings(manifest.batches, seen.ballots.sizes) : []
+  return [...fileWarnings(files, states, sums, repeated, seen), ...rowWarnings(rows, allowedBy(contests.filter(it => !isRanked(it, seen?.greatest)))), ...contestWarnings(contests, rows, seen), ...seen?.lines ?? [], ...batches]
 }
 
 // ---- names, and files

@@ -11,6 +11,12 @@ async function digest(bytes) {
   return [...sum].map(it => it.toString(16).padStart(2, '0')).join('')
 }
 
+// The bytes of a file, and their SHA-256, where cvr reads it whole.
+async function bytesAndSum(source, piece) {
+  const bytes = await bytesOf(source, HELD, piece)
+  return {bytes, sum: source.size < HELD ? await digest(bytes) : null}
+}
+
 // Files, each with its path and the size that it had when it was given.
 class Files {
   constructor(module, files, runs) {
@@ -23,15 +29,17 @@ class Files {
     this.place = module.take(this.room + this.size)
   }
 
-  // Puts the bytes of a file behind those before it, and answers them.
-  async read(at) {
-    const bytes = await bytesOf(this.files[at], HELD)
-    for (const piece of [this.encoded[at], bytes]) {
+  // Puts the bytes of the next file behind those before it.
+  put(bytes) {
+    for (const piece of [this.encoded[this.ends.length / 2], bytes]) {
       const start = this.ends.at(-1) ?? 0
       this.module.bytes(this.place + this.room + start, piece.length).set(piece)
       this.ends.push(start + piece.length)
     }
-    return bytes
+  }
+
+  end() {
+    this.module.free(this.place)
   }
 
   // The bytes of a file that was read.
@@ -86,25 +94,35 @@ class Files {
 async function withDevice(runs, definition) {
   let device
   try {
-    device = JSON.parse(new TextDecoder().decode(await bytesOf(definition, HELD))).ReportingDevice[0]['@id']
+    device = JSON.parse(frameText(await bytesOf(definition, HELD))).ReportingDevice[0]['@id']
   } catch (fault) {
     return runs.filter(words => !words.includes(null))
   }
   return runs.map(words => words.map(it => it ?? device))
 }
 
-// Reads, and runs each of the commands; tells each step, and why it stops. Answers also the bytes of the first file, of each
-// its SHA-256, where cvr reads it whole, and what the records say; or why no current snapshot was looked at.
-async function answered(compiled, files, runs, tell) {
-  const all = await withDevice(runs, files[0]), held = new Files(new Module(compiled), files, all), sums = [], answers = []
-  const looks = all.some(([task]) => task === 'conflicts')     // at the records; then volume 1 is for that alone
-  let first = null, volume = null
-  for (const [at, it] of files.entries()) {
-    tell(it.path, `Reading ${at + 1} of ${files.length}: ${it.path}`)
-    const bytes = await held.read(at)
-    sums.push(it.size < HELD ? await digest(bytes) : null)
-    first ??= bytes
+// Reads files; tells which, and answers the sum of each by its path.
+async function readTo(held, groups, tell) {
+  const sums = new Map(), count = held.files.length
+  for await (const [it, {value, reason}] of settledOf(groups, bytesAndSum)) {
+    tell(it.path, `Reading ${sums.size + 1} of ${count}: ${it.path}`)
+    if (reason) throw reason
+    held.put(value.bytes)
+    sums.set(it.path, value.sum)
   }
+  return sums
+}
+
+// Reads, and runs each of the commands; tells each step, and why it stops. Of the files the first is the definition; where its
+// records count, it stands twice, and is read once. Answers also the definition without its records, of each file its sum, and
+// what the records say; or why no current snapshot was looked at.
+async function answered(compiled, files, runs, tell) {
+  const groups = groupsOf([...new Map(files.map(it => [it.path, it])).values()]), order = groups.flatMap(it => it.sources)
+  const all = await withDevice(runs, files[0]), held = new Files(new Module(compiled), order, all), answers = []
+  const looks = all.some(([task]) => task === 'conflicts')     // at the records; then volume 1 is for that alone
+  const by_path = await readTo(held, groups, tell), sums = files.map(it => by_path.get(it.path)), places = new Map(order.map((it, at) => [it.path, at]))
+  const read = at => held.bytes(places.get(files[at].path))
+  let volume = null
   for (const words of all) {
     tell(null, `Running cvr ${words[0]}`)
     if (words[0] === 'merge' && looks) volume = held.volume(words)
@@ -115,7 +133,8 @@ async function answered(compiled, files, runs, tell) {
   if (!looks || answers.some(it => it.status > 1)) return {answers, sums}
   tell(null, 'Reading the records once more')
   const printed = its => new TextDecoder().decode(its.text), unseen = volume ? null : all.length < runs.length ? NO_DEVICE : NO_ROOM
-  return {first, sums, answers, unseen, ...looked(files.map(it => it.path), at => held.bytes(at), {...check, text: printed(check)}, printed(conflicts), volume)}
+  const its = looked(files.map(it => it.path), read, {...check, text: printed(check)}, printed(conflicts), volume)
+  return {first: its.states[0].records === undefined ? null : frameText(read(0)), sums, answers, unseen, ...its}
 }
 
 const isOfMemory = fault => fault instanceof Refused || fault instanceof RangeError
@@ -126,13 +145,18 @@ function faultOf(fault, path) {
   return {fault: isOfMemory(fault) ? 'memory' : path === null ? 'program' : 'file', path, said: String(fault)}
 }
 
-// Without commands the files are an export, which is gathered.
-onmessage = async ({data: {compiled, files, runs, rules}}) => {
+// Runs commands over files; or answers their definition, the one that is named, if one is; or gathers an export.
+function done({compiled, files, runs, named}, tell) {
+  if (runs) return answered(compiled, files, runs, tell)
+  return named === undefined ? gathered(files, compiled, tell) : definitionOf(files, named, compiled, tell)
+}
+
+onmessage = async ({data}) => {
   let path = null
   const tell = (now, step) => { path = now; if (step) postMessage({step}) }
-  RULES = rules
+  RULES = data.rules
   try {
-    postMessage(await (runs ? answered(compiled, files, runs, tell) : gathered(files, compiled, tell)))
+    postMessage(await done(data, tell))
   } catch (fault) {
     postMessage(faultOf(fault, path))
   }

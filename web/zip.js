@@ -18,7 +18,7 @@ const folderOf = path => path.slice(0, Math.max(0, path.lastIndexOf('/')))
 const filled = (text, ...values) => text.replace(/%[sd]/g, () => values.shift())
 
 const view = async (file, from, to) => new DataView(await file.slice(from, to).arrayBuffer())
-const signs = (its, from, count) => new TextDecoder().decode(new Uint8Array(its.buffer, from, count))
+const signs = (its, from, count) => new TextDecoder().decode(new Uint8Array(its.buffer, its.byteOffset + from, count))
 
 // ---- the list of a ZIP
 
@@ -100,27 +100,46 @@ async function sourcesIn(path, file) {
 
 // ---- the bytes of a source
 
-// What a file of a ZIP has, as a stream of gzip, of which a browser checks the length and the sum.
-async function gzipOf(path, file, {name, method, size, count, place, sum}) {
-  const head = await view(file, place, place + 30 + new TextEncoder().encode(name).length)
-  if (signs(head, 0, 4) !== ZIP || signs(head, 30, head.byteLength - 30) !== name) throw new Unfit(path, RULES.DAMAGED)
-  const from = place + 30 + head.getUint16(26, true) + head.getUint16(28, true), packed = file.slice(from, from + count), tail = new Uint32Array([sum, size])
-  const blocks = method === DEFLATED ? [packed] : [...blocksOf(packed)]
-  return new Blob([Uint8Array.of(31, 139, 8, 0, 0, 0, 0, 0, 0, 255), ...blocks, tail]).stream().pipeThrough(new DecompressionStream('gzip'))
+// A piece of a ZIP that is read at once: where it begins there, and its bytes.
+const pieceOf = async (file, from, to) => ({from, bytes: new Uint8Array(await file.slice(from, to).arrayBuffer())})
+
+// Bytes of a ZIP: from a piece of it, where that has them.
+async function between(file, from, to, piece) {
+  const its = piece && from >= piece.from && to <= piece.from + piece.bytes.length ? piece : await pieceOf(file, from, to)
+  return its.bytes.subarray(from - its.from, to - its.from)
+}
+
+// What a file of a ZIP has, as a stream of gzip, of which a browser checks the length and the sum. It is fed from memory,
+// unless it is long: a stream of each small file would take a browser most of the time.
+async function gzipOf(path, file, {name, method, size, count, place, sum}, piece) {
+  const bytes = await between(file, place, place + 30 + new TextEncoder().encode(name).length, piece), head = new DataView(bytes.buffer, bytes.byteOffset, bytes.length)
+  if (bytes.length < 30 || signs(bytes, 0, 4) !== ZIP || signs(bytes, 30, bytes.length - 30) !== name) throw new Unfit(path, RULES.DAMAGED)
+  const from = place + 30 + head.getUint16(26, true) + head.getUint16(28, true), is_long = count > SPAN
+  const packed = is_long ? file.slice(from, from + count) : await between(file, from, from + count, piece)
+  const parts = [Uint8Array.of(31, 139, 8, 0, 0, 0, 0, 0, 0, 255), ...method === DEFLATED ? [packed] : blocksOf(packed, count), new Uint8Array(new Uint32Array([sum, size]).buffer)]
+  return is_long ? new Blob(parts).stream().pipeThrough(new DecompressionStream('gzip')) : unpackedOf(parts)
+}
+
+// The stream of what parts in memory are packed of; its reader hears of what is wrong with them.
+function unpackedOf(parts) {
+  const {readable, writable} = new DecompressionStream('gzip'), writer = writable.getWriter()
+  for (const it of parts) writer.write(it).catch(() => {})
+  writer.close().catch(() => {})
+  return readable
 }
 
 // Bytes that aren't packed, as blocks that a stream of gzip may have.
-function* blocksOf(bytes) {
+function* blocksOf(bytes, size) {
   const most = 65535
-  for (let at = 0; at === 0 || at < bytes.size; at += most) {
-    const count = Math.min(most, bytes.size - at)
-    yield Uint8Array.of(at + count === bytes.size ? 1 : 0, count & 255, count >> 8, ~count & 255, (~count >> 8) & 255)
+  for (let at = 0; at === 0 || at < size; at += most) {
+    const count = Math.min(most, size - at)
+    yield Uint8Array.of(at + count === size ? 1 : 0, count & 255, count >> 8, ~count & 255, (~count >> 8) & 255)
     yield bytes.slice(at, at + count)
   }
 }
 
-// The first bytes of a source, at most so many.
-async function bytesOf({path, file, size, packed}, most) {
+// The first bytes of a source, at most so many. A piece of its ZIP may have them packed.
+async function bytesOf({path, file, size, packed}, most, piece = null) {
   const wanted = Math.min(size, most)
   if (!packed) {
     const bytes = new Uint8Array(await file.slice(0, most).arrayBuffer())
@@ -130,7 +149,7 @@ async function bytesOf({path, file, size, packed}, most) {
   const bytes = new Uint8Array(wanted)
   let at = 0
   try {
-    for await (const part of piecesOf(await gzipOf(path, file, packed))) {
+    for await (const part of piecesOf(await gzipOf(path, file, packed, piece))) {
       if (at + part.length > size) throw new RangeError('it is longer')
       bytes.set(part.subarray(0, wanted - at), at)
       if ((at += part.length) >= wanted && wanted < size) return bytes
@@ -148,5 +167,49 @@ async function* piecesOf(stream) {
     for (let part; !(part = await reader.read()).done;) yield part.value
   } finally {
     reader.cancel().catch(() => {})
+  }
+}
+
+// ---- many sources
+
+const TOGETHER = 64             // sources that are read at once, since each has a browser wait
+const SPAN = 2 ** 22            // bytes of a ZIP that are read at once, and of files
+const GAP = 2 ** 16             // bytes between two files of a ZIP that are read in vain
+const UNPACKED = 2 ** 24        // bytes of the files in such a span
+
+// Where the bytes of a source stand: in its ZIP, up to the name and what else stands before them there; else behind the last one's.
+function spanOf({packed, size}, last) {
+  if (!packed) return {from: last, to: last + size}
+  return {from: packed.place, to: packed.place + 30 + 3 * packed.name.length + 256 + packed.count}
+}
+
+// Sources of one ZIP, or of none, in groups that are read at once.
+function* groupsIn(file, sources) {
+  let group = null
+  for (const it of sources) {
+    const {from, to} = spanOf(it, group?.to ?? 0)
+    if (!group || group.sources.length === TOGETHER || from < group.from || from > group.to + GAP || to > group.from + SPAN || group.size + it.size > UNPACKED) {
+      if (group) yield group
+      group = {file, from, to, size: 0, sources: []}
+    }
+    group.sources.push(it)
+    group.to = Math.max(group.to, to)
+    group.size += it.size
+  }
+  yield group
+}
+
+// Sources in such groups, those of a ZIP in the order of their places there, or as they are.
+function groupsOf(sources, by_place = true) {
+  const held = grouped(sources, it => it.packed ? it.file : null)
+  return [...held].flatMap(([file, its]) => [...groupsIn(file, file && by_place ? its.sort((a, b) => a.packed.place - b.packed.place) : its)])
+}
+
+// What a call makes of each source of groups, or why it can't. The call is given a source, and a piece of its ZIP or null.
+async function* settledOf(groups, call) {
+  for (const {file, from, to, sources} of groups) {
+    const piece = file && to - from <= SPAN ? await pieceOf(file, from, to).catch(() => null) : null
+    const all = await Promise.allSettled(sources.map(it => call(it, piece)))
+    for (const [at, it] of all.entries()) yield [sources[at], it]
   }
 }

@@ -5,17 +5,17 @@ import json
 ADVICE = {
     'refused': 'it is left out of every number; have it exported again',
     'alone': 'no file is given, so nothing is counted; name the files after DEF',
-    'among': 'DEF is one of the files, too, so its records count as those of that file; take the '
-             'report from before the first ballot as DEF',
-    'definition': 'the records of DEF are not counted; take the report from before the first '
-                  'ballot, or name it among the files, too',
+    'among': 'the definition (DEF) is one of the files, too, so its records count as those of that '
+             'file; take the report from before the first ballot as the definition',
+    'definition': 'the records of the definition (DEF) are not counted; take the report from before '
+                  'the first ballot, or name it among the files, too',
     'header': 'find the ballot, decide where it belongs, and have the wrong file exported again; '
               'text 1 counts',
     'snapshot': 'look at both in the adjudication log, and have the wrong file exported again; '
                 'text 1 is the one that can count',
-    'undone': 'the file names the first snapshot as the current one, and the second one counts; '
-              'look at both in the adjudication log, and where the adjudication was undone have '
-              'the file exported without it',
+    'undone': 'of two readings of the ballot (snapshots) the file names the first as the current '
+              'one, and the second counts; look at both in the adjudication log, and where the '
+              'adjudication was undone have the file exported without it',
     'repeated': 'the file has so many records of this name, which count as one; where they are '
                 'ballots of their own, have it exported again with a name for each',
     'ballot': 'records of one ballot, or one id that was given twice; look at the ballots',
@@ -36,13 +36,16 @@ ADVICE = {
                'the adjudication',
     'unassigned': 'these votes count for no selection; ask the maker of the files',
     'contest': 'no record has this contest; ask whether a file is missing',
-    'record': 'its current snapshot has no contest, so it stands in no row; look at the ballot',
-    'unsigned': 'in so many of the records that this file decides, neither an AdjudicatorName nor '
-                'a TimeStamp stands with the snapshot that counts; ask where the file comes from',
-    'nobody': 'in so many records the snapshot that counts has a TimeStamp and no AdjudicatorName; '
-              'ask who decided',
-    'later': 'in so many records the snapshot that counts is later than the date of each file that '
-             'has it; look at the clock of the desk, or for a file that was forged',
+    'record': 'the reading of it that counts (its current snapshot) has no contest, so it stands in '
+              'no row of the tally; look at the ballot',
+    'unsigned': 'so many records count as this file has them and another one doesn\'t, and neither '
+                'an AdjudicatorName nor a TimeStamp stands with the reading that counts (the '
+                'current snapshot); ask where the file comes from',
+    'nobody': 'in so many records the reading that counts (the current snapshot) has a TimeStamp '
+              'and no AdjudicatorName; ask who decided',
+    'later': 'in so many records the reading that counts (the current snapshot) is later than the '
+             'date of each file that has it; look at the clock of the desk, or for a file that was '
+             'forged',
     'device': 'ask whether there were two machines with one id, whose records may have been joined',
     'ranked': 'the votes of all ranks or scores are added up, and no rounds are computed; hand the '
               'ranks on to a tool that does (records --columns ranks)',
@@ -51,8 +54,8 @@ ADVICE = {
     'counted': 'no fault: the files have the first number of records, and the second is counted: '
                'those of one name, again in a file or elsewhere in another one, count as one',
     'decides': 'adjudicated records, no fault: so many records of other files are counted by a '
-               'snapshot that this file has and another one lacks; hold each against the '
-               'adjudication log',
+               'reading of the ballot (a snapshot) that this file has and another one lacks; hold '
+               'each against the adjudication log',
 }
 KNOWN = 'counted', 'decides'        # only worth knowing: of these alone the status is 0
 FEW = 10                            # lines of one kind; more are folded, unless all are asked for

@@ -9,6 +9,7 @@ from .reading import spelled
 
 ABSENT = '-'        # in place of a value that one side doesn't have
 NOTHING = object()  # that value
+LONG = 200
 SIDES = 'one', 'other'
 Shown = namedtuple('Shown', 'name value text')      # a record as volume 1 shows it
 
@@ -25,9 +26,10 @@ def steps_of(one, other):
 
 
 def members(one, other, path=''):
-    """The places where two values differ, each with the texts of both values there."""
+    """The places where two values differ, each with the texts of both values there. A value below which
+    a place has more than LONG characters is one place, so that no long name stands there many times."""
     steps = steps_of(one, other)
-    if steps is None:
+    if steps is None or any(len(path) + len(str(step)) > LONG for step, _, _ in steps):
         texts = [ABSENT if it is NOTHING else spelled(it) for it in (one, other)]
         if texts[0] != texts[1]:
             yield path, texts

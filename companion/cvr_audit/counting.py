@@ -15,6 +15,13 @@ def selections_of(definition):
     return {it['@id']: [one['@id'] for one in it.get('ContestSelection', [])] for it in contests}
 
 
+def write_ins_of(definition):
+    """The places of the write-ins among the selections of each contest."""
+    contests = definition['Election'][0]['Contest']
+    return {it['@id']: {place for place, one in enumerate(it.get('ContestSelection', []))
+                        if one.get('IsWriteIn') is True} for it in contests}
+
+
 def counts(position):
     """Whether the votes of a position count."""
     allocable = position.get('IsAllocable')

@@ -82,7 +82,7 @@ def see_accepted(cvr, words):
     """Stops where `cvr check` refuses one of these files, with its lines."""
     done = program.started([cvr, 'check', '--'] + words)
     if done.returncode:
-        raise program.Ended(done.returncode, done.stderr)
+        raise program.Ended(done.returncode, program.in_order(words, done.stderr))
 
 
 @contextmanager

@@ -40,6 +40,9 @@ INSTEAD = \
          'Unpack it, or have the records of a workbook exported as CSV.'),
  'gzip': ('It is packed by gzip.', 'Unpack it.'),
  'pdf': ('It is a PDF, which has no records.', 'Ask for the export that it was printed from.'),
+ 'picture': ('It is a picture, which has no records.', 'Ask for the export that belongs to it.'),
+ 'document': ('It is a document of an office program, which has no records.',
+              'Ask for the export that it was made from.'),
  'xml': ('It is XML or a page of the web.', 'Have the records exported as JSON.'),
  'table': ('It is a table such as CSV.', None),
  'json': ('It is JSON of another kind than a report.', None),
@@ -49,4 +52,8 @@ INSTEAD = \
  'strange': ('It is JSON that not every reader takes: it is nested too deep, or has a number that '
              'is too large, half a sign, or a word such as NaN.',
              'Have it exported again.'),
+ 'ballot': ('It is one ballot of an export of VxSuite, which is read together with its '
+            'metadata.json.',
+            'Give the folder or the ZIP of the whole export; where that file is missing, have it '
+            'exported again.'),
  'gather': ('cvr-audit gather makes reports of it.', None)}

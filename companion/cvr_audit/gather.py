@@ -9,8 +9,10 @@ from . import (gather_cdf, gather_clearballot, gather_devices, gather_dominion, 
 from . import gather_said as said
 from .gather_out import DEFINITION, writing
 from .gather_source import fault, sources_in
+from .gather_words import Meanings
 from .progress import Progress
 from .reading import spelled
+from .terminal import in_a_line
 
 KINDS = {
     'vxsuite': gather_vxsuite,
@@ -23,7 +25,8 @@ KINDS = {
 }
 # the options that not every kind reads
 OF_KINDS = {'contests': ('dominion', 'clearballot', 'ess'), 'heads': ('clearballot',), 'votes': ('hart',), 'left_out': ('ess',),
-            'device': ('dominion', 'dominion-json', 'ess', 'clearballot')}
+            'device': ('dominion', 'dominion-json', 'ess', 'clearballot'),
+            'means': ('dominion', 'dominion-json', 'ess', 'hart', 'clearballot')}
 RECORD = re.compile(r'/CVR/(\d+)')
 UNKNOWN = ('no form of export is recognised here (%s); if it is one of these, name it with --as, '
            'and see docs/GATHER.md' % ', '.join(KINDS))
@@ -49,7 +52,7 @@ def recognised(sources, paths):
 
 def refused(out, log):
     """The end where `cvr` refuses what was written: its fault, at the place in the source."""
-    lines = log.decode('utf-8', 'replace').splitlines()
+    lines = log.decode('utf-8', 'replace').split('\n')
     name, found = lines[0].rpartition(': ')[::2] if lines else ('', '')
     name = os.path.basename(name)
     place = RECORD.search(found)
@@ -93,7 +96,7 @@ def see_counts(cvr, kind, sources, out, report):
 def text_of(name, words, out, counts, sources):
     """What is printed: the kind, the reports with their records, and what isn't in them."""
     lines = ['kind %s' % name] + gather_devices.lines_of(words)
-    lines += ['%s %d' % (os.path.join(words.folder, file), count)
+    lines += ['%s %d' % (in_a_line(os.path.join(words.folder, file)), count)
               for file, count in zip(out.files, counts)]
     lines += ['left out %s' % spelled(it.name) for it in sources
               if it.digest is None and not KINDS[name].stays(it)]
@@ -121,6 +124,7 @@ def run(words):
     """Writes the folder; the text says what it has."""
     cvr, progress = program.find(), Progress(sys.stderr, 2)
     gather_devices.see_names(words)
+    words.meanings = Meanings(words.means)
     sources = sources_in(words.files, words.device)
     name = words.kind or recognised(sources, words.files)
     kind = KINDS[name]
@@ -133,6 +137,7 @@ def run(words):
         try:
             progress.show('read %d sources of the kind %s' % (len(sources), name))
             report = kind.read(sources, out, cvr, words)
+            words.meanings.see(out, 'cell' if name == 'ess' else 'choice')
             see_said(out, report, words)
             gather_devices.see_distinct(sources)
             if not out.count:

@@ -5,7 +5,7 @@ from collections import Counter
 from .gather_choices import choices_of
 from .gather_columns import Contests, Head
 from .gather_frame import Frame, snapshot
-from .gather_table import Table, begins, rows_of
+from .gather_table import Table, rows_of
 from .reading import spelled
 
 NEEDED = ['BoxID', 'BoxPosition', 'BallotID', 'PrecinctID', 'BallotStyleID', 'ScanComputerName']
@@ -16,7 +16,7 @@ SHOWN = 5           # texts of Status in a note
 
 
 def fits(source):
-    return begins(source, b'BoxPosition', b'BallotID')
+    return source.is_of('clearballot')
 
 
 def stays(source):
@@ -108,7 +108,7 @@ class Reader:
 
 def read(sources, out, cvr, words):
     """Adds the records; answers the definition."""
-    frame, ballots, contests = Frame('clearballot'), {}, Contests(words.contests)
+    frame, ballots, contests = Frame('clearballot'), {}, Contests(words)
     for source in filter(fits, sources):
         Reader(source, out, ballots, words.heads).read(frame, contests)
     contests.see_overvoted(frame, out)

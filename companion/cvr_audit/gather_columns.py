@@ -3,7 +3,6 @@ import re
 import shlex
 from collections import Counter, namedtuple
 
-from .gather_ess_words import NO_CHOICE, is_no_choice
 from .gather_frame import Contest
 from .gather_source import fault
 from .program import WORDS, ended
@@ -73,8 +72,9 @@ class Contests:
     --contests names others. `heads` has the columns of each, and `marks` the number of records with
     so many marks."""
 
-    def __init__(self, texts):
-        self.cuts, self.heads, self.marks, self.place = cuts_in(texts), {}, {}, None
+    def __init__(self, words):
+        self.cuts, self.heads, self.marks, self.place = cuts_in(words.contests), {}, {}, None
+        self.meanings = words.meanings
 
     def key_of(self, head):
         """The contest of a column: its name, with its columns where --contests parts those."""
@@ -113,8 +113,7 @@ class Contests:
             if selection is None:
                 raise table.fault('the choice %s stands twice in %s; %s'
                                   % (it.choice, key, self.ways(heads, place)))
-            if is_no_choice(it.choice):
-                raise table.fault(NO_CHOICE % (it.choice, key))
+            self.meanings.see_listed(table.fault, it.choice, key)
             made.add(selection, it.choice)
             columns.append((it.column - 1, selection))
         self.see_write_ins(table, made, heads)

@@ -3,7 +3,7 @@ import re
 
 from .gather_columns import Contests, Head
 from .gather_frame import Frame, snapshot
-from .gather_table import Table, begins, rows_of
+from .gather_table import Table, rows_of
 
 NEEDED = 'TabulatorNum', 'BatchId', 'RecordId', 'PrecinctPortion', 'BallotType'
 OPTIONAL = 'CvrNumber', 'ImprintedId', 'CountingGroup', 'UniqueVotingIdentifier'
@@ -13,7 +13,7 @@ HEADS, LINES = 4, 'its four lines of heads'
 
 
 def fits(source):
-    return begins(source, b'TabulatorNum', b'RecordId')
+    return source.is_of('dominion')
 
 
 def stays(source):
@@ -78,7 +78,7 @@ def read_row(table, heads, frame, cells, texts):
 
 def read(sources, out, cvr, words):
     """Adds the records; answers the definition."""
-    frame, contests = Frame('dominion'), Contests(words.contests)
+    frame, contests = Frame('dominion'), Contests(words)
     for source in filter(fits, sources):
         table, own = Table(source), Frame('dominion')
         rows = table.rows()

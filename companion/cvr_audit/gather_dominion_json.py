@@ -1,7 +1,7 @@
 """The JSON of Dominion: CvrExport.json, and lists of what its numbers name."""
 from collections import Counter, namedtuple
+from functools import partial
 
-from .gather_ess_words import NO_CHOICE, is_no_choice
 from .gather_frame import Contest, Frame, position, snapshot
 from .gather_json import STRICT, Document, value_in
 from .gather_sessions import Stated
@@ -42,11 +42,11 @@ Mark = namedtuple('Mark', 'choice is_vote is_sure rank')
 
 
 def is_export(source):
-    return source.base.startswith(EXPORT) and source.base.endswith('.json')
+    return source.is_named_as('dominion-json')
 
 
 def fits(source):
-    return is_export(source) and b'"Sessions"' in source.head()
+    return source.is_of('dominion-json')
 
 
 def stays(source):
@@ -79,7 +79,7 @@ def list_named(sources, base, is_needed=True):
     return texts_in(held[0]) if held else None
 
 
-def add_contests(frame, sources):
+def add_contests(frame, sources, meanings):
     """Adds the contests and their choices, as the lists have them."""
     for key, item in list_named(sources, CONTESTS).items():
         allowed = item.get('VoteFor')
@@ -91,9 +91,8 @@ def add_contests(frame, sources):
         contest = str(item.get('ContestId'))
         if contest not in frame.contests:
             raise fault(CANDIDATES, 'the candidate %s is of no contest' % key)
-        if is_no_choice(item['Description']):
-            raise fault(CANDIDATES, NO_CHOICE % (item['Description'],
-                                                 frame.contests[contest].shown['Name']))
+        meanings.see_listed(partial(fault, CANDIDATES), item['Description'],
+                            frame.contests[contest].shown['Name'])
         frame.contests[contest].add(key, item['Description'], is_write_in(str(item.get('Type'))))
 
 
@@ -106,10 +105,10 @@ class Export:
     overvoted by their marks alone, in how many votes and undervotes are too many or too few, and how
     many sessions are of a type that isn't SCANNED."""
 
-    def __init__(self, sources):
+    def __init__(self, sources, meanings):
         self.frame, self.types = Frame('dominion-json'), Counter()
         self.unstated = self.unequal = 0
-        add_contests(self.frame, sources)
+        add_contests(self.frame, sources, meanings)
         self.units = list_named(sources, UNITS, is_needed=False)
 
     def notes(self):
@@ -300,7 +299,7 @@ class Session:
 
 def read(sources, out, cvr, words):
     """Adds the records; answers the definition."""
-    export, stated = Export(sources), Stated()
+    export, stated = Export(sources, words.meanings), Stated()
     for source in filter(is_export, sources):
         document, number = Document(source, 'Sessions', STRICT), -1
         for number, value, _ in document.items():

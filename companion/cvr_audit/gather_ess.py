@@ -1,7 +1,7 @@
 """The CSV of ES&S: a line of heads, then a line for each record, with a choice in each cell."""
 from .gather_ess_columns import NEEDED, NUMBER, STYLE, UNIT, Columns
 from .gather_frame import Frame, snapshot
-from .gather_table import Table, begins, rows_of
+from .gather_table import Table, rows_of
 
 DEVICE = 'ess'              # the form names no device
 HEADS = 1
@@ -44,7 +44,7 @@ class Reader:
 
 
 def fits(source):
-    return begins(source, NUMBER.encode())
+    return source.is_of('ess')
 
 
 def stays(source):

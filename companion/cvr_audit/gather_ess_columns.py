@@ -3,10 +3,11 @@ import shlex
 from collections import Counter
 
 from .gather_columns import MANY, Contests, Head, runs
-from .gather_ess_words import (OVERVOTE, UNDERVOTE, bare, is_answer, is_joined, is_of_doubt, is_of_origin,
-                               is_ranked, numberless, plain, why_no_choice, why_no_word)
 from .gather_frame import Contest, position
 from .gather_source import fault
+from .gather_words import (OVERVOTE, UNDERVOTE, bare, is_answer, is_joined, is_of_doubt, is_of_origin,
+                           is_ranked, numberless, way_of, why_no_choice)
+from .terminal import in_a_line
 
 NUMBER, UNIT, STYLE = NEEDED = ['Cast Vote Record', 'Precinct', 'Ballot Style']
 OUT_OR_IN = 'go on with --left-out %s or, where it is a contest, with --contests %s'
@@ -18,7 +19,7 @@ NO_WORD = ('the column %s (%s) has %d cells with %d different texts, and none of
            'undervote, overvote or a write-in, so nothing says that it is a contest; ')
 WORDS_ALONE = 'the column %s (%s) has %d cells and no choice in any of them; '
 TWO_WORDS = ('%s stands here for no vote, in %d cells, and %s elsewhere, in %d; whether both say '
-             'that is not known: have it exported anew, with one of them')
+             'that is not known; where they do, go on with --means %s')
 TOGETHER = ('the contest %s has the choice %s in %d cells, and its parts are choices, too, so it '
             'may be several in one cell; where it is one, go on with --contests %s')
 NUMBERED = ('%s and %s have %d choices in common, such as %s and %s, so they may be the columns '
@@ -46,7 +47,7 @@ class Columns(Contests):
     the number of rows by the texts in them."""
 
     def __init__(self, words):
-        super().__init__(words.contests)
+        super().__init__(words)
         self.names, self.cells, self.left, self.first = words.left_out or [], {}, {}, None
 
     # ---- heads
@@ -108,11 +109,11 @@ class Columns(Contests):
         return held.texts[cells]
 
     def made(self, table, contest, cells):
-        if set(cells) == {''}:
+        words = [self.meanings.plain(it) for it in cells]
+        if set(words) == {''}:
             return None
-        if '' in cells:
+        if '' in words:
             raise table.fault('some cells of %s are empty and others are not' % contest.key)
-        words = [plain(it) for it in cells]
         chosen = [it for it in words if it not in (UNDERVOTE, OVERVOTE)]
         if chosen and OVERVOTE in words:
             raise table.fault('%s stands beside a choice in %s' % (OVERVOTE, contest.key))
@@ -130,12 +131,9 @@ class Columns(Contests):
 
     def see_choice(self, table, contest, cell):
         """Stops at a cell that isn't the name of a choice, or may not be."""
-        found = why_no_word(cell)
-        if found:
-            raise table.fault('%s in the column %s is no choice, but %s; ask whoever exported it'
-                              % (cell, contest.key, found))
+        self.meanings.see_cell(table.fault, cell, contest.key)
         found = why_no_choice(cell)
-        if found and not self.is_named(contest):
+        if found and not self.is_named(contest) and not self.meanings.of(cell):
             raise table.fault('%s in the column %s is no choice, but %s; %s'
                               % (cell, contest.key, found, OUT_OR_IN % names_of(self.heads[contest.key])))
 
@@ -148,10 +146,10 @@ class Columns(Contests):
     def see_contest(self, contest):
         """Stops where columns may be no contest, or several."""
         held, heads = self.cells[contest.key], self.heads[contest.key]
-        rows = {cells: number for cells, number in held.rows.items() if any(cells)}
+        rows = {cells: number for cells, number in held.rows.items() if held.texts[cells]}
         if not rows or self.is_named(contest):
             return
-        words = {plain(it) for cells in rows for it in cells}
+        words = {self.meanings.plain(it) for cells in rows for it in cells}
         told = contest.key, runs(it.column for it in heads), len(heads) * sum(rows.values())
         if not contest.selections:
             raise self.fault(WORDS_ALONE % told + OUT_OR_IN % names_of(heads))
@@ -203,20 +201,26 @@ class Columns(Contests):
     def fault(self, text):
         return fault(self.place[0], text, self.place[1])
 
+    def each_cell(self):
+        """Each text in a column of a contest, with a number of rows, and a place."""
+        for held in self.cells.values():
+            for cells, number in held.rows.items():
+                yield from ((it, number, held.places[cells]) for it in cells)
+
     def see_words(self, out):
         """Notes what else than the word of the form says that there is no vote, and stops where an export
         has two words for that."""
-        found, places = Counter(), {}
-        for held in self.cells.values():
-            for cells, number in held.rows.items():
-                for it in cells:
-                    if it and plain(it) == UNDERVOTE:
-                        found[it.lower()] += number
-                        places.setdefault(it.lower(), held.places[cells])
+        found, places, meanings = Counter(), {}, self.meanings
+        for text, number, place in self.each_cell():
+            if meanings.of(text):
+                meanings.used[in_a_line(text)] += number
+            elif meanings.plain(text) == UNDERVOTE:
+                found[text.lower()] += number
+                places.setdefault(text.lower(), (*place, text))
         if len(found) > 1:
             one, other = sorted(found, key=lambda it: it == UNDERVOTE)[:2]
-            raise fault(places[one][0], TWO_WORDS % (one, found[one], other, found[other]),
-                        places[one][1])
+            name, line, text = places[one]
+            raise fault(name, TWO_WORDS % (one, found[one], other, found[other], way_of(text, UNDERVOTE)), line)
         for word, number in found.items():
             if word != UNDERVOTE:
                 out.note('%s: the word %s is read as %s; cells with it: %d'

@@ -3,12 +3,12 @@ import collections
 import re
 
 from . import gather_xml
-from .gather_ess_words import NO_CHOICE, is_no_choice
 from .gather_frame import Contest, Frame, position, snapshot
+from .gather_said import FORMS
 from .gather_source import fault
 from .gather_votes import Votes
 
-SPACE = '{http://tempuri.org/CVRDesign.xsd}'
+SPACE = '{%s}' % FORMS['hart'][1][0]
 ROOT = SPACE + 'Cvr'
 # how an attribute of XML itself begins, which says how a file is read
 SCHEMA = '{http://www.w3.org/2001/XMLSchema-instance}'
@@ -31,11 +31,11 @@ NUMBER = re.compile('[0-9]{1,18}')
 
 def is_export(source):
     """Whether a source has to be a record. A Mac puts `._` before the names of its own files."""
-    return source.base.lower().endswith('.xml') and not source.base.startswith('._')
+    return source.is_named_as('hart')
 
 
 def fits(source):
-    return is_export(source) and SPACE[1:-1].encode() in source.head()
+    return source.is_of('hart')
 
 
 def stays(source):
@@ -45,8 +45,8 @@ def stays(source):
 class Reader:
     """A source as a record."""
 
-    def __init__(self, source, frame, votes):
-        self.source, self.frame, self.votes = source, frame, votes
+    def __init__(self, source, frame, votes, meanings):
+        self.source, self.frame, self.votes, self.meanings = source, frame, votes, meanings
 
     def fault(self, text):
         return fault(self.source.name, text)
@@ -108,8 +108,8 @@ class Reader:
         key = self.text(held, 'Id') or (WRITTEN if is_written else '')
         if not key or not name:
             raise self.fault('an Option of %s has no Name or no Id' % contest.key)
-        if key not in contest.selections and is_no_choice(name):
-            raise self.fault(NO_CHOICE % (name, contest.shown['Name']))
+        if key not in contest.selections:
+            self.meanings.see_listed(self.fault, name, contest.shown['Name'])
         contest.add(key, name, is_written)
         if contest.names[key] != name:
             raise self.fault('the Option %s is named %s, and %s elsewhere'
@@ -181,7 +181,7 @@ def read(sources, out, cvr, words):
     """Adds the records; answers the definition."""
     frame, votes = Frame('hart'), Votes(words.votes)
     for source in filter(is_export, sources):
-        out.add(Reader(source, frame, votes).record())
+        out.add(Reader(source, frame, votes, words.meanings).record())
     votes.see(frame.contests)
     in_order(frame)
     return frame.report()

@@ -11,10 +11,11 @@ from contextlib import contextmanager
 
 from . import definition, testing
 from . import gather_said as said
-from .gather_source import fault, in_a_line
+from .gather_source import fault
 from .manifest import Sizes, manifest_in
 from .program import FAILED, ended
 from .reading import spelled
+from .terminal import in_a_line
 
 HEAD = said.BEGINNING.encode('utf-8')
 DEFINITION, SOURCES = 'definition.json', 'sources.csv'

@@ -58,6 +58,23 @@ NO_REPORT = 'there is no %s in this folder of a ballot' % REPORT
 NO_METADATA = 'there is no %s beside its folder' % METADATA
 NO_ONE_RECORD = 'it is no object with a CVR of one record, and nothing else'
 
+# ---- how an export is recognised: the form of a file's name, and what its first bytes have
+TABLE = r'.*\.(?:[cC][sS][vV]|[tT][xX][tT])'
+FORMS = {
+    'vxsuite': (r'metadata\.json', [FRAME]),
+    'dominion': (TABLE, ['TabulatorNum', 'RecordId']),
+    'dominion-json': (r'CvrExport.*\.json', ['"Sessions"']),
+    'ess': (TABLE, ['Cast Vote Record']),
+    'hart': (r'(?!\._).*\.[xX][mM][lL]', ['http://tempuri.org/CVRDesign.xsd']),
+    'clearballot': (TABLE, ['BoxPosition', 'BallotID']),
+}
+# what the page for a browser says of one
+OF_MAKER = 'It is an export of %s.'
+MAKERS = {
+    'vxsuite': 'VxSuite', 'dominion': 'Dominion, as CSV', 'dominion-json': 'Dominion, as JSON',
+    'ess': 'ES&S, as CSV', 'hart': 'Hart, as XML', 'clearballot': 'Clear Ballot, as CSV',
+}
+
 # ---- reports of a test, and exports that aren't whole
 TESTS, INCOMPLETE, TEST_FOLDER = ('test', 'pretest'), 'incomplete', 'TEST__'
 OTHER_TYPE = '%s: its OtherReportType %s is left out, as it names no test'

@@ -1,4 +1,5 @@
 """What `gather` reads: files, and those in folders and ZIPs, as one list of sources."""
+import errno
 import hashlib
 import io
 import os
@@ -13,21 +14,16 @@ from .program import ended
 
 REFUSED = 1                 # the status where a source is refused
 PIECE = 1 << 20             # bytes that are read at once
-FORMULA = '=', '+', '-', '@'
+CHANGED = 'it was changed while it was read'
+FORMULA = tuple('=+-@＝＋－＠')
 PACKED = b'PK\x03\x04'
 OF_A_MAC = re.compile(said.OF_A_MAC, re.S)
 DAMAGE = zipfile.BadZipFile, zlib.error, EOFError, NotImplementedError, RuntimeError
 
 
-def in_a_line(text):
-    """A text as a terminal shows it in one line: other signs are spelled. Bytes of a path stay."""
-    return ''.join(it if it.isprintable() or '\udc80' <= it <= '\udcff' else ascii(it)[1:-1]
-                   for it in text)
-
-
 def fault(name, text, place=None):
     """The end of a run over a source that isn't as it should be, with the place there."""
-    return ended(REFUSED, in_a_line(': '.join(it for it in (name, place, text) if it)))
+    return ended(REFUSED, ': '.join(it for it in (name, place, text) if it))
 
 
 class Source:
@@ -59,6 +55,15 @@ class Source:
         except DAMAGE:
             raise self.damaged() from None
 
+    def is_named_as(self, kind):
+        """Whether its name is as those of a kind of export."""
+        return re.fullmatch(said.FORMS[kind][0], self.base, re.S) is not None
+
+    def is_of(self, kind):
+        """Whether it is of a kind of export, by its name and its first bytes."""
+        texts = said.FORMS[kind][1]
+        return self.is_named_as(kind) and all(it.encode() in self.head() for it in texts)
+
     def lines(self):
         """The lines, as bytes with their ends."""
         return self.parts(iter)
@@ -74,7 +79,7 @@ class Source:
         except DAMAGE:
             raise self.damaged() from None
         if self.digest not in (None, digest.hexdigest()):
-            raise fault(self.name, 'it was changed while it was read')
+            raise fault(self.name, CHANGED)
         self.digest = digest.hexdigest()
 
     def data(self):
@@ -91,8 +96,16 @@ class Source:
             raise fault(self.name, said.NO_TEXT, 'line %d' % line) from None
 
 
-def opener(path):
-    return lambda: open(path, 'rb', buffering=0)
+def opened(path, name, held):
+    """A file of the system, if it is the one that was looked at: a link may have taken its place."""
+    try:
+        file = open(path, 'rb', buffering=0, opener=lambda it, flags: os.open(it, flags | getattr(os, 'O_NOFOLLOW', 0)))
+    except OSError as wrong:
+        raise fault(name, CHANGED) if wrong.errno == errno.ELOOP else wrong from None
+    if not os.path.samestat(os.fstat(file.fileno()), held):
+        file.close()
+        raise fault(name, CHANGED)
+    return file
 
 
 def file_source(path, name):
@@ -101,7 +114,7 @@ def file_source(path, name):
     if not stat.S_ISREG(held.st_mode):
         raise fault(name, 'it is no regular file: a link may lead out of the folder, and a pipe '
                           'can be read only once')
-    return Source(name, held.st_size, opener(path))
+    return Source(name, held.st_size, lambda: opened(path, name, held))
 
 
 def raised(wrong):

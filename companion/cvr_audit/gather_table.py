@@ -7,13 +7,7 @@ from .gather_source import fault
 
 QUOTED = re.compile(r'="(.*)"')     # as a spreadsheet keeps a text from being a number
 OTHERS = {';': 'semicolons', '\t': 'tabs'}
-ENDS = '.csv', '.txt'
 csv.field_size_limit(1 << 20)
-
-
-def begins(source, *texts):
-    """Whether a source is named as a table, and has these texts in its first bytes."""
-    return source.base.lower().endswith(ENDS) and all(it in source.head() for it in texts)
 
 
 def bare(cell):

@@ -27,7 +27,7 @@ class Named:
         """By source the index of each record that has the snapshot that counts and names another one, and
         that snapshot; from what `cvr currents` prints."""
         found = {}
-        for line in currents.decode('utf-8').splitlines() if self.held else ():
+        for line in currents.decode('utf-8').split('\n')[:-1] if self.held else ():
             *name, current = map(json.loads, words_of(line)[:3])
             for source, number, named, ids in self.held.get(tuple(name), ()):
                 if current in ids and current != named:

@@ -20,7 +20,7 @@ def is_report(source):
 
 
 def fits(source):
-    return source.base == METADATA and FRAME.encode() in source.head()
+    return source.is_of('vxsuite')
 
 
 def stays(source):

@@ -1,34 +1,35 @@
 """What a file that is no report seems to be, by its first bytes (docs/FAULTS.md, What a file is
 instead)."""
-import codecs
 import json
+import os
 import re
 
-from . import gather, gather_source, program
+from . import gather, gather_said, gather_source, program
 from .fault_words import INSTEAD
 
 HEAD = 4096         # bytes that are looked at
-MARKS = [('zip', b'PK\x03\x04'), ('gzip', b'\x1f\x8b'), ('pdf', b'%PDF'), ('mark', codecs.BOM_UTF8),
-         ('utf-16', codecs.BOM_UTF16_LE), ('utf-16', codecs.BOM_UTF16_BE)]
-JSON = re.compile(rb'\s*[{\[]')
-WIDE = re.compile(rb'[{\[]\0|\0[{\[]')
-TABLE = re.compile(rb'[^\n\0]*[,;\t]')
+# How each kind begins: the first that fits is the one. The page for a browser has these, too
+# (web/instead.js), so they are written as both languages read them.
+BEGINNINGS = [
+    ('document', r'PK\x03\x04[\s\S]*word/|\xd0\xcf\x11\xe0|\{\\rtf'),
+    ('picture', r'\xff\xd8\xff|\x89PNG|GIF8|RIFF[\s\S]{4}WEBP|II\*\x00|MM\x00\*|'
+                r'[\s\S]{4}ftyp(?:hei|mif)'),
+    ('zip', r'PK\x03\x04'), ('gzip', r'\x1f\x8b'), ('pdf', r'%PDF'), ('mark', r'\xef\xbb\xbf'),
+    ('utf-16', r'\xff\xfe|\xfe\xff|[{\[]\x00|\x00[{\[]'),
+    ('nothing', r'[ \t\n\r\f\v]*$'), ('json', r'[ \t\n\r\f\v]*[{\[]'), ('xml', r'[ \t\n\r\f\v]*<'),
+    ('table', r'[^\n\x00]*[,;\t]'),
+]
+FORMS = [(kind, re.compile(form.encode())) for kind, form in BEGINNINGS]
+
+# blanks, or the beginning of a word or a number
+CUT = re.compile(r'\s*(?:-|tr?u?|fa?l?s?|nu?l?)?')
 
 
 def kind_of(data):
     """What a text of these bytes seems to be."""
-    for kind, mark in MARKS:
-        if data.startswith(mark):
-            return kind
-    if not data.strip():
-        return 'nothing'
-    if WIDE.match(data):
-        return 'utf-16'
-    if JSON.match(data):
-        return kind_of_json(data)
-    if data.lstrip().startswith(b'<'):
-        return 'xml'
-    return 'table' if TABLE.match(data[:HEAD]) else 'unknown'
+    head = data[:HEAD] if data[:HEAD].strip() else data.lstrip()[:HEAD]
+    kind = next((kind for kind, form in FORMS if form.match(head)), 'unknown')
+    return kind_of_json(data) if kind == 'json' else kind
 
 
 def kind_of_json(data):
@@ -41,7 +42,7 @@ def kind_of_json(data):
     except RecursionError:
         return 'json'
     except json.JSONDecodeError as fault:
-        is_open = fault.msg.startswith('Unterminated') or not text[fault.pos:].strip()
+        is_open = fault.msg.startswith('Unterminated') or CUT.fullmatch(text, fault.pos)
         return 'cut' if is_open else 'damaged'
     except ValueError:      # a number of very many digits
         return 'json'
@@ -63,6 +64,9 @@ def seems(path, is_json):
     no JSON and Python does, it has something that not every reader takes."""
     with open(path, 'rb') as file:
         kind = kind_of(file.read())
-    what, advice = INSTEAD['strange' if kind == 'json' and not is_json else kind]
+    if kind == 'json':
+        is_ballot = os.path.basename(path) == gather_said.REPORT
+        kind = 'strange' if not is_json else 'ballot' if is_ballot else kind
+    what, advice = INSTEAD[kind]
     export = export_in(path)
     return what, INSTEAD['gather'][0] if export else advice, export

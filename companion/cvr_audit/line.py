@@ -1,9 +1,12 @@
 """The words of the command line, and how a run ends."""
 import argparse
+import os
+import shutil
 import sys
 
 from . import (VERSION, compare, definition, gather, gather_choices, journal, lines, output, page,
                paths, program, records, strict, totals, trace, warnings, why, without, writeins)
+from .terminal import in_lines
 
 ABOUT = ('Print cast vote records one by one, compare two sets of files, trace a number of the '
          'tally, warn of what needs a person, make what a voting system exports into files that cvr '
@@ -62,6 +65,9 @@ MEANT = {'DEF': 'a report of the election; its own records are not counted',
 MANIFEST = 'a file of lines `batch,ballots` or `device,batch,ballots`'
 # the options that take the paths of files from a list
 LISTS = {'files_from': 'files', 'one_from': 'one', 'other_from': 'other'}
+# the commands whose texts are for a reader, but for those that have another form
+TEXTS = (compare.run, gather.run, journal.run, totals.run, trace.run, warnings.run, why.run, without.run,
+         writeins.run)
 TASK = 'TASK'       # the first word of these: a command of cvr
 TASKS = {'lines': lines.TASKS, 'strict': strict.TASKS}
 LAST = 'journal'    # whose words stand after `--`, behind its options
@@ -154,6 +160,10 @@ OPTIONS = {
                                                       'each, such as `Council=4-5,6-7`'}),
         (('--left-out',), 'COLUMN', {'action': 'append', 'help': 'the head of a column of ES&S that is no '
                                                                  'contest, and is left out'}),
+        (('--means',), 'TEXT=MEANING', {'action': 'append',
+                                        'help': 'what a cell of ES&S says, such as `N/A=absent`: `undervote`, '
+                                                '`overvote`, `absent` (not on the ballot) or `choice`; of the '
+                                                'choices that another form lists only `choice`'}),
         (('--device',), 'NAME', {'action': 'append', 'help': 'the source of the records of each FROM, in '
                                  'the order of these'}),
         (('--votes',), 'CONTEST=N', {'action': 'append',
@@ -280,6 +290,7 @@ def read(words):
 
 def log(lines):
     """Writes lines to standard error. Where that fails the run goes on, as one of `cvr` does."""
+    lines = in_lines(lines.decode('utf-8', 'surrogateescape')).encode('utf-8', 'surrogateescape')
     try:
         # not by Python's own buffer, which would be written once more, and fail, at the end
         with open(sys.stderr.fileno(), 'wb', closefd=False) as file:
@@ -295,7 +306,7 @@ def sides(words):
     held = []
     for files in lists:
         held.append(program.Files(found, words.definition, files, sys.stderr))
-        log(held[-1].log)
+        log(held[-1].shown_log(held[-1].log))
     return held
 
 
@@ -333,6 +344,11 @@ def made(words):
     return text, 1 if is_found or any(side.status for side in files) else 0
 
 
+def is_text(words):
+    """Whether what is printed is neither JSON, CSV nor a page, nor the text of `cvr` itself."""
+    return words.run in TEXTS and getattr(words, 'form', 'text') == 'text'
+
+
 def is_headed(words):
     """Whether what the reports say of themselves stands before the text."""
     return words.run in (totals.run, strict.run, warnings.run) and getattr(words, 'form', '') != 'json'
@@ -347,7 +363,8 @@ def said_beside(side, words):
 
 def inputs_of(words):
     """The paths that the words name beside the output."""
-    held = [words.definition, getattr(words, 'manifest', None)]
+    held = [words.definition, getattr(words, 'manifest', None), shutil.which(os.environ.get('CVR') or 'cvr')]
+    held += [shutil.which(getattr(words, 'second', None) or '')]
     held += [getattr(words, it, None) for it in LISTS]
     for name in LISTS.values():
         held += getattr(words, name, None) or []
@@ -365,7 +382,7 @@ def main(words):
         words = read(words)
         text, status = made(words)
         if text is not None:
-            output.write(text, words.output, is_secret(words))
+            output.write(in_lines(text) if is_text(words) else text, words.output, is_secret(words))
         return status
     except program.Ended as end:
         log(end.log)

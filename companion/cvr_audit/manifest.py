@@ -6,6 +6,8 @@ from .program import WORDS, ended
 FORM = ('%s: line %d is no `batch,ballots` or `device,batch,ballots` as the others, or names a batch '
         'again')
 MARKED = '%s: line %d: write the number %s with digits alone'
+LONG = '%s: line %d: the number has more than 18 digits'
+NO_CSV = '%s: no CSV in UTF-8'
 
 
 def is_number(cell):
@@ -29,6 +31,8 @@ def manifest_in(path):
                 raise ended(WORDS, FORM % (path, place))
             if not is_number(cells[-1]):
                 raise ended(WORDS, MARKED % (path, place, cells[-1]))
+            if len(cells[-1].strip()) > 18:
+                raise ended(WORDS, LONG % (path, place))
             held[name], width = int(cells[-1]), len(cells)
     return held
 
@@ -38,7 +42,7 @@ def lines_in(file, path):
     try:
         yield from enumerate(csv.reader(file), 1)
     except (UnicodeDecodeError, csv.Error):
-        raise ended(WORDS, '%s: no CSV in UTF-8' % path) from None
+        raise ended(WORDS, NO_CSV % path) from None
 
 
 def has_devices(expected):

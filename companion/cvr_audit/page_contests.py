@@ -12,6 +12,12 @@ ALLOWED = 'Votes and unassigned come to {:,}, and the ballots have {:,}{}.'
 SUMS = 'Votes, overvotes, undervotes, pending and unassigned come to {:,}, the ballots to {:,}: {}.'
 RANKED = 'The votes of this contest are ranks or scores: {}, and no rounds are computed.'
 BY_RANK, ELSEWHERE = 'they stand by rank', 'they stand on the whole page alone'
+# what the words of the numbers mean
+UNITS = 'A unit is a precinct or another district.'
+NUMBERS = ('Pending are votes of which nobody has decided yet whether they count; no selection has '
+           'them. Unassigned are votes that count, and name no selection.')
+LEADER = ('The votes of its leader are withheld, too. To show them, add up more units first: make one page '
+          'of the files of all of them.')
 NOTE = ('* stands for a number that is withheld: it is below ten, or one below ten would follow '
         'from it.')
 HEADS = [it.capitalize() for it in counting.COLUMNS]
@@ -42,7 +48,7 @@ class Contest:
         self.plain, self.is_ranked = facts.names.plain_contest(key), facts.is_ranked(key)
         self.is_single = self.allowed == 1 and not self.is_ranked       # a ballot has one vote at most
         self.stated = [facts.seen.notes.is_stated(key, it) for it in counting.COLUMNS]
-        self.mask = page_masking.NOTHING
+        self.write_ins, self.mask = facts.write_ins[key], page_masking.NOTHING
 
     def title(self, facts):
         return element('h3', facts.names.contest(self.key))
@@ -58,7 +64,8 @@ def contests_of(facts):
         rows[row[0]][row] = numbers
     contests = [Contest(facts, key, held) for key, held in rows.items()]
     if facts.is_public:
-        masks = page_masking.masks([it.units() for it in contests], [it.is_single for it in contests])
+        masks = page_masking.masks([it.units() for it in contests], [it.is_single for it in contests],
+                                   [it.write_ins for it in contests])
         for contest, mask in zip(contests, masks):
             contest.mask = mask
     return contests
@@ -136,6 +143,7 @@ def contest_parts(facts, contest):
     yield contest.title(facts)
     if contest.mask.is_whole:
         yield element('p', 'Its numbers are withheld.')
+        yield element('p', LEADER)
         return
     yield listed([('Ballots', WITHHELD if contest.mask.is_loose else contest.ballots)])
     if contest.is_ranked:
@@ -143,6 +151,8 @@ def contest_parts(facts, contest):
         yield from rank_tables(facts, contest) if contest.is_whole else ()
     else:
         yield selections(facts, contest)
+    if 0 < len(contest.selections) == len(contest.mask.selections) and not contest.is_ranked:
+        yield element('p', LEADER)
     if contest.is_whole:
         yield listed(others_of(contest))
         yield None if contest.is_ranked else element('p', sums_of(contest))
@@ -152,7 +162,8 @@ def totals(facts, contests):
     """Each contest with its sums."""
     parts = [element('div', *contest_parts(facts, it), class_='contest') for it in contests]
     note = element('p', NOTE) if facts.is_public else None
-    return section('contests', 'Contests', note, *parts)
+    said = element('p', UNITS if facts.is_public else '%s %s' % (UNITS, NUMBERS))
+    return section('contests', 'Contests', note, *parts, said)
 
 
 # ---- by unit and by batch

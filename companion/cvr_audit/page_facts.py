@@ -23,6 +23,7 @@ class Facts:
         self.files, self.is_public = files, words.public
         self.names = page_names.Names(files.report)
         self.selections = counting.selections_of(files.report)
+        self.write_ins = counting.write_ins_of(files.report)
         self.allowed = excess.allowed_of(files.report)
         self.manifest = manifest.manifest_in(words.manifest) if words.manifest else None
         self.seen = Seen(self)

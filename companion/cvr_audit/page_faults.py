@@ -1,6 +1,8 @@
 """The fault of a refused file in words, with what to do. docs/FAULTS.md says more about each."""
 from .fault_words import CODES, RULES
 
+WHOLE = 'the whole file'
+
 
 def place_in(fault):
     """The place of a fault and the number of its rule, where it has them."""
@@ -8,7 +10,7 @@ def place_in(fault):
     if not fault.startswith('E3 '):
         return words, None
     place, rule = words.rsplit(' ', 1)
-    return place or 'the whole file', int(rule)
+    return place or WHOLE, int(rule)
 
 
 def in_words(fault):

@@ -33,14 +33,15 @@ def public_inputs(facts):
     each file that it may be, and see which one fits. Nor of DEF, where it has records."""
     said = ['SHA-256 ', code(of_file(facts.files.definition)[0])]
     if facts.files.own_records:
-        said = ['SHA-256 withheld, since DEF has records']
-    return listed([('DEF', *said)])
+        said = ['SHA-256 withheld, since it has records']
+    return listed([('Definition', *said)])
 
 
 def inputs(facts):
     """The definition and the files."""
     heads = ['File', 'SHA-256', 'Bytes', 'Records', 'Device', 'State']
     said = public_inputs(facts) if facts.is_public else \
-        folded(True, 'DEF and {:,} files'.format(len(facts.files.files)),
-               table('DEF and the files', heads, input_rows(facts)))
-    return section('inputs', 'Inputs', said, element('p', 'The records of DEF are not counted.'))
+        folded(True, 'The definition and {:,} files'.format(len(facts.files.files)),
+               table('The definition and the files', heads, input_rows(facts)))
+    return section('inputs', 'Inputs', said,
+                   element('p', 'The records of the definition (DEF) are not counted.'))

@@ -5,6 +5,8 @@ A contest is its numbers by unit: the ballots, then the votes of each selection.
 several votes, the ballots without a vote for a selection count as its votes do: a reader knows that no
 selection has more votes than there are ballots, so that few without one lead to its votes."""
 from collections import namedtuple
+from itertools import accumulate
+from math import inf
 
 LEAST = 10          # the least number that may be shown, or follow
 EACH = 20           # a selection with fewer votes a unit is shown by unit of no unit
@@ -21,7 +23,7 @@ def is_enough(rows):
 
 
 def covered(rows, small):
-    """The places of rows that are withheld: the small ones, the first, and more by their place, never
+    """The places of units that are withheld: the small ones, the first, and more by their place, never
     by their size, until they hide each other; or all."""
     hidden = {*small}
     for place in range(len(rows) if small else 0):
@@ -86,20 +88,52 @@ def added(rows):
     return [tuple(map(sum, zip(*column))) for column in zip(*rows)]
 
 
-def selections_withheld(sums, is_loose):
-    """The places of a contest's selections whose votes are withheld; None where that is not enough."""
-    small = [place for place, sides in enumerate(sums) if min(sides) < LEAST]
-    hidden = covered(sums, small or [0] * is_loose)
-    return None if hidden and not is_enough([sums[it] for it in hidden]) else hidden
+def ordered(sums, write_ins, small=()):
+    """The places of a contest's selections: write-ins, then the others; of both first those that are
+    small, then those with fewer votes."""
+    return sorted(range(len(sums)), key=lambda it: (it not in write_ins, it not in small, sums[it]))
 
 
-def apart_of(sums, hidden, count):
+def turned(sums, write_ins):
+    """The sides of each selection, of which the first one orders them: the ballots without a vote where
+    these alone are small and no write-in comes first."""
+    least = list(map(min, zip(*sums)))
+    return [sides[::-1] for sides in sums] if least[-1] < LEAST <= least[0] and not write_ins else sums
+
+
+def limits(rows, kinds):
+    """What the first one, two .. rows, but not all, have to stay below together. A next one of the first
+    one's kind is shown since it is greater: so a row may have none only if the others, which then have all,
+    may still be less than that one. Where their other sides are small, too, nothing is known to be enough."""
+    is_known = all(it >= LEAST for sides in rows for it in sides[1:])
+    for count, (following, kind) in enumerate(zip(rows[1:], kinds[1:]), 1):
+        yield (count - 1) * (following[0] - 1) * is_known if kind == kinds[0] else inf
+
+
+def selections_withheld(sums, write_ins, is_loose):
+    """The places of a contest's selections whose votes are withheld: all small ones, and as few as hide
+    each other; None where that is not enough."""
+    small = {place for place, sides in enumerate(sums) if min(sides) < LEAST}
+    if not small and not is_loose:
+        return small
+    sums = turned(sums, write_ins)
+    order = ordered(sums, write_ins, small)
+    least = max([2] + [count for count, place in enumerate(order, 1) if place in small])
+    rows, kinds = [sums[it] for it in order], [it in write_ins for it in order]
+    for count, (most, *totals) in enumerate(zip(limits(rows, kinds), *map(accumulate, zip(*rows))), 1):
+        if count >= least and min(totals) >= LEAST and totals[0] < most:
+            return {*order[:count]}
+    return {*order} if is_enough(rows) else None
+
+
+def apart_of(sums, hidden, write_ins, count):
     """The places of the selections of which nothing is shown by unit: those that are withheld, and those
-    whose votes, which are shown, are few for so many units; never one alone."""
+    whose votes are few for so many units; with the next one, where all these together are few."""
     few = EACH * count if count > 1 else 0      # the votes of one unit are those of the contest
     apart = {*hidden} | {place for place, sides in enumerate(sums) if min(sides) < few}
-    others = [place for place in range(len(sums)) if place not in apart]
-    return apart | {*others[:1]} if len(apart) == 1 else apart
+    others = [place for place in ordered(sums, write_ins) if place not in apart]
+    is_few = any(sum(column) < few for column in zip(*(sums[place] for place in apart)))
+    return apart | {*others[:is_few]}
 
 
 def units_withheld(held, apart, groups):
@@ -119,21 +153,23 @@ def columns_of(sums, apart):
     return shown + list(map(sum, zip(*(sums[place] for place in apart))))
 
 
-def mask_of(held, is_single, is_loose, groups):
+def mask_of(held, is_single, write_ins, is_loose, groups):
     sides = {unit: sides_of(numbers, is_single) for unit, numbers in held.items()}
     sums = added(sides.values())
-    hidden, every = selections_withheld(sums, is_loose) if sums else None, {*range(len(sums))}
-    if hidden is None or sum(numbers[0] for numbers in held.values()) < LEAST:
+    hidden, every = selections_withheld(sums, write_ins, is_loose) if sums else None, {*range(len(sums))}
+    if hidden is None or is_loose and hidden == every or \
+            sum(numbers[0] for numbers in held.values()) < LEAST:
         return Mask(True, True, every, every, {*held})
     if is_loose:
         return Mask(False, True, hidden, every, {*held})
-    apart = apart_of(sums, hidden, len(held))
+    apart = apart_of(sums, hidden, write_ins, len(held))
     return Mask(False, False, hidden, apart, units_withheld(sides, apart, groups))
 
 
-def masks(contests, singles):
-    """What is withheld of each contest; `singles` says of each whether a ballot has one vote at most."""
+def masks(contests, singles, write_ins):
+    """What is withheld of each contest; `singles` says of each whether a ballot has one vote at most,
+    `write_ins` which places of selections are write-ins."""
     styles = styles_of(contests)
     groups, tight = list(joined(contests, styles)), {place for style in styles.values() for place in style}
-    return [mask_of(held, is_single, place not in tight, groups)
-            for place, (held, is_single) in enumerate(zip(contests, singles))]
+    return [mask_of(held, is_single, places, place not in tight, groups)
+            for place, (held, is_single, places) in enumerate(zip(contests, singles, write_ins))]

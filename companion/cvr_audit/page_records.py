@@ -7,6 +7,12 @@ MANY = 40           # a table with more rows is folded
 FEW = 3             # conflicts of one kind; more are folded
 MOST = 500          # members of a conflict; of more the first ones that differ are shown
 LEFT = 'The first {:,} members that differ, of {:,}; cvr-audit compare prints all.'
+# what the words of the section mean
+CONFLICTS = ('The files contradict each other about these; find out which text is right before you '
+             'use the numbers. A text is what some of the files say: of a device; of a record\'s '
+             'header, which has its unit, batch and style; or of a snapshot, which is one reading of '
+             'a ballot.')
+NO_CONFLICT = 'None: the files agree about all devices and records.'
 TITLES = {'device': 'Device', 'header': 'Header', 'snapshot': 'Snapshot'}
 GROUPS = {'device': 'devices', 'header': 'headers of records', 'snapshot': 'snapshots'}
 SAID = {'overvotes': 'overvoted', 'undervotes': 'undervoted', 'pending': 'pending',
@@ -55,32 +61,74 @@ def reconciliation(facts):
 
 # ---- conflicts
 
-def leaves(value, path=''):
-    """Each text, number or empty part of a value, by its place (a JSON Pointer)."""
-    if isinstance(value, dict) and value:
-        steps = sorted(value.items())
-    elif isinstance(value, list) and value:
-        steps = list(enumerate(value))
-    else:
-        return {path: reading.spelled(value)}
-    held = {}
-    for step, part in steps:
-        held.update(leaves(part, path + reading.pointer(step)))
-    return held
+ABSENT = object()       # where a value has nothing
+
+
+def steps_of(values):
+    """The names or the numbers of the parts of values, in their order."""
+    if all(isinstance(it, list) for it in values):
+        return range(max(map(len, values)))
+    return sorted({str(step) for it in values
+                   for step in (it if isinstance(it, dict) else range(len(it)))})
+
+
+def part_of(value, step):
+    """What a value has at a step."""
+    if isinstance(value, dict):
+        return value.get(step, ABSENT)
+    is_there = isinstance(value, list) and str(step).isdigit() and int(step) < len(value)
+    return value[int(step)] if is_there else ABSENT
+
+
+def leaves(values, way=None):
+    """The places where a value has a text, a number or an empty part: the way there, as a step and
+    the way above it, and the text of each value there; None of one that has nothing or parts. No
+    place is spelled here, since a name may be long and have many values below it."""
+    below = [it for it in values if isinstance(it, (dict, list)) and it]
+    here = [None if it is ABSENT or isinstance(it, (dict, list)) and it else reading.spelled(it)
+            for it in values]
+    if any(it is not None for it in here):
+        yield way, here
+    for step in steps_of(below) if below else ():
+        yield from leaves([part_of(it, step) for it in values], (step, way))
+
+
+def path_of(way):
+    """The JSON Pointer of a way."""
+    steps = []
+    while way:
+        step, way = way
+        steps.append(step)
+    return reading.pointer(*reversed(steps))
+
+
+class First:
+    """The first of many rows, and how many there are."""
+
+    def __init__(self):
+        self.rows, self.count = [], 0
+
+    def add(self, row):
+        self.count += 1
+        if self.count <= MOST:
+            self.rows.append(row)
 
 
 def members_of(texts):
-    """The members of the texts side by side; of many those that differ."""
-    held = [leaves(value) for value in texts]
-    rows = [(path, [it.get(path) for it in held])
-            for path in dict.fromkeys(path for it in held for path in it)]
-    differ = [it for it in rows if len({*it[1]}) > 1]
-    return rows if len(rows) <= MOST else differ
+    """The members of the texts side by side, of many those that differ: the first ones, and how
+    many there are."""
+    every, differ = First(), First()
+    for way, parts in leaves(texts):
+        every.add((way, parts))
+        if len({*parts}) > 1:
+            differ.add((way, parts))
+    held = every if every.count <= MOST else differ
+    return [(path_of(way), parts) for way, parts in held.rows], held.count
 
 
 def text_rows(members):
     """A row for each member; differences are marked."""
-    for path, parts in members[:MOST]:
+    for path, parts in members:
         is_same = len({*parts}) == 1
         yield [code(path)] + ['' if part is None else code(part) if is_same else
                               element('mark', code(part)) for part in parts]
@@ -106,13 +154,13 @@ def conflict(facts, key, texts):
     paths = [paths for _, paths in texts]
     values = [value for value, _ in texts]
     heads = ['Member'] + ['Text %d' % number for number in range(1, len(texts) + 1)]
-    members = members_of(values)
+    members, count = members_of(values)
     rows = [['Files'] + list(map(codes, paths))] + list(text_rows(members))
-    left = LEFT.format(MOST, len(members)) if len(members) > MOST else None
+    left = LEFT.format(MOST, count) if count > MOST else None
     rule = 'other' if kind == 'snapshot' and not is_current(facts, names) else kind
     title = element('h3', TITLES[kind], ' ', codes(names))
     return element('div', title, element('p', rule_of(rule, values)), left and element('p', left),
-                   folded(len(rows) > MANY, '{:,} members'.format(len(members)),
+                   folded(len(rows) > MANY, '{:,} members'.format(count),
                           table('Texts side by side', heads, rows, None, ' '.join(names))))
 
 
@@ -123,7 +171,8 @@ def conflicts(facts):
         groups.setdefault(key[0], []).append(conflict(facts, key, texts))
     parts = [folded(len(held) > FEW, '{:,} {}'.format(len(held), GROUPS[kind]), *held)
              for kind, held in groups.items()]
-    return section('conflicts', 'Conflicts', *(parts or [element('p', 'None.')]))
+    said = element('p', CONFLICTS if parts else NO_CONFLICT)
+    return section('conflicts', 'Conflicts', said, *parts)
 
 
 # ---- adjudications

@@ -98,9 +98,9 @@ def colours(place):
 
 
 def quoted(text):
-    """A text in a string of CSS, in which only letters and digits of ASCII stand as they are."""
-    return ''.join(it if it.isascii() and it.isalnum() or it == ' ' else '\\%06x' % ord(it)
-                   for it in text)
+    """A text in a string of CSS, in which only letters and digits of ASCII stand as they are: a space
+    behind an escape would end it."""
+    return ''.join(it if it.isascii() and it.isalnum() else '\\%06x' % ord(it) for it in text)
 
 
 def style_of(election):

@@ -4,9 +4,11 @@ from .page_tree import code, element, folded, name, section
 
 # in the order of ADVICE
 KINDS = {
-    'refused': 'File refused', 'alone': 'No file', 'among': 'DEF among the files',
-    'definition': 'Records in DEF', 'header': 'Two headers of a record',
-    'snapshot': 'Two texts of a snapshot', 'undone': 'Another snapshot is named as current',
+    'refused': 'File refused', 'alone': 'No file', 'among': 'The definition is among the files',
+    'definition': 'Records in the definition',
+    'header': 'Two headers of a record (unit, batch, style)',
+    'snapshot': 'Two texts of a snapshot (a reading of a ballot)',
+    'undone': 'Another snapshot (reading) is named as current',
     'repeated': 'One record several times in a file', 'ballot': 'One ballot twice', 'batch': 'Batch',
     'exceeds': 'More votes on a ballot than it has', 'doubled': 'Several votes of a ballot for one',
     'votes': 'Too many votes', 'sum': 'Sum', 'waiting': 'Waiting', 'pending': 'Pending',
@@ -42,15 +44,15 @@ def place_of(facts, kind, parts):
 
 
 def places_of(facts, kind, places):
-    """What is warned of, in columns; where it is much, behind the number of places in each file, and on
-    a screen alone."""
+    """What is warned of, in columns; where it is much, behind the number of cases in each file, and
+    on a screen alone."""
     left = element('p', LEFT.format(MOST, len(places))) if len(places) > MOST else None
     lines = element('ul', *(place_of(facts, kind, it) for it in places[:MOST]), class_='places')
     counts = counts_of(kind, places, facts.seen.notes.origins)
     said = ', '.join('%s %s' % (path, '{:,}'.format(count)) for path, count in counts.items())
     if len(counts) > FEW:
         said = '{:,} files'.format(len(counts))
-    summary = '{:,} places{}'.format(len(places), said and ': ' + said)
+    summary = '{:,} cases{}'.format(len(places), said and ': ' + said)
     return folded(len(places) > FEW, summary, left, lines, is_shut=True)
 
 

@@ -10,6 +10,7 @@ import tempfile
 
 from . import reading, testing
 from .progress import Progress
+from .terminal import in_a_line
 
 DATE = '1970-01-01T00:00:00Z'       # of the heading of a volume, which nothing here reads
 MOST = 100000                       # characters of paths that are given as words
@@ -30,11 +31,22 @@ class Ended(Exception):
 
 
 def ended(status, text):
-    return Ended(status, ('cvr-audit: %s\n' % text).encode('utf-8', 'surrogateescape'))
+    return Ended(status, ('cvr-audit: %s\n' % in_a_line(text)).encode('utf-8', 'surrogateescape'))
 
 
 def mismatch(text):
     return ended(MISMATCH, text)
+
+
+def in_order(paths, log):
+    """The log of a run of `cvr` over these paths, each of them in a line."""
+    log, place, lines = log.decode('utf-8', 'surrogateescape'), 0, []
+    for path in paths:
+        if log.startswith(path + ': ', place):
+            end = log.find('\n', place + len(path))
+            lines.append(in_a_line(log[place:end]) + '\n')
+            place = end + 1
+    return (''.join(lines) + log[place:]).encode('utf-8', 'surrogateescape')
 
 
 def see_one_sort(reports, is_meant):
@@ -96,11 +108,11 @@ class Files:
         self.marks = {path: mark_of(path) for path in [definition] + files}
         status, out, log = self.run('check', [definition], [definition])
         if status:
-            raise Ended(status, log)
+            raise Ended(status, in_order([definition], log))
         self.own_records = accepted_in([definition], out)[0][1]
         self.status, out, self.log = self.run('check', [definition], files)
         if self.status > 1:
-            raise Ended(self.status, self.log)
+            raise Ended(self.status, self.shown_log(self.log))
         self.accepted = accepted_in(files, out)
         self.notes, self.recount, self.tallied = '', None, None
         self.report, self.reports = self.report_at(definition), testing.Reports()
@@ -127,6 +139,9 @@ class Files:
         self.see_same(status, log)
         return out.decode('utf-8', 'surrogateescape')       # `check` prints paths as they are
 
+    def shown_log(self, log):
+        return in_order([self.definition, *self.files], log)
+
     def refused(self):
         """Each refused file with its fault, from the log, whose lines are in the order of the files."""
         accepted, place = {path for path, _ in self.accepted}, 0
@@ -140,7 +155,7 @@ class Files:
     def see_same(self, status, log):
         """Stops where a command failed, or refused other files than `check`."""
         if status > 1:
-            raise Ended(status, log[len(self.log):] if log.startswith(self.log) else log)
+            raise Ended(status, self.shown_log(log[len(self.log):] if log.startswith(self.log) else log))
         if (status, log) != (self.status, self.log):
             raise mismatch('a file was changed while it was read')
 

@@ -8,7 +8,7 @@ HEAD = '{"@type":"CVR.CastVoteRecordReport","CVR":['      # of a volume that has
 SIZE = 1 << 20
 DECODER = json.JSONDecoder()
 ENCODER = json.JSONEncoder(ensure_ascii=False, sort_keys=True, separators=(',', ':'))
-WORD = re.compile(r'"(?:[^"\\]|\\.)*"|[^ ]+')
+WORD = re.compile(r'"[^"\\]*(?:\\.[^"\\]*)*"|[^ ]+')
 
 
 def report(path):

@@ -3,6 +3,7 @@ import os
 
 from . import bodies, reading
 from .program import Ended
+from .terminal import in_a_line
 
 TASKS = 'check', 'tally', 'currents', 'conflicts'
 
@@ -40,7 +41,7 @@ def causes(files):
 
 def run(files, words):
     """The text, and whether there is something to look at."""
-    log = b''.join(os.fsencode('%s: %s\n' % it) for it in causes(files))
+    log = b''.join(os.fsencode('%s: %s\n' % (in_a_line(path), rule)) for path, rule in causes(files))
     if log:
         raise Ended(1, log)
     return files.text(words.task), False

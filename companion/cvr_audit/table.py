@@ -11,7 +11,8 @@ DEVICE, UNIQUE, UNIT, BATCH, STYLE, AUDIT = range(len(HEADER))
 FILES, SEQUENCE, _, _, MACHINE = range(len(NAMES) - 5, len(NAMES))
 NUMBERS = counting.COLUMNS[1:]      # of a contest in a line, before the votes of its selections
 MARKS = ',', '"', '\n', '\r'
-FORMULAS = '=', '+', '-', '@', '\t', '\r'     # what a spreadsheet takes for the beginning of a formula
+# what a spreadsheet takes for the beginning of a formula: also signs of full width
+FORMULAS = '=', '+', '-', '@', '\t', '\r', '\n', '＝', '＋', '－', '＠'
 
 
 def heads_of(selections, columns):

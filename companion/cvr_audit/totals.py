@@ -1,10 +1,13 @@
 """cvr-audit totals: the sums of each contest and selection, by name and id."""
 from . import counting, notes, page_names, reading, table, written
+from .advice import ADVICE
+from .terminal import in_a_line
 
 GROUPS = {'unit': 'BallotStyleUnitId', 'batch': 'BatchId', 'device': 'CreatingDeviceId',
           'style': 'BallotStyleId'}
 PRINTED = {'unit': 1, 'batch': 2}       # the groups that a row of the tally has
 NUMBERS = counting.COLUMNS
+RANKED = 'RANKED: %s: %s'
 UNSTATED = 'not stated'     # in place of a number that no file states
 
 
@@ -28,15 +31,12 @@ def sums_of(files, said, selections, group):
         place = PRINTED.get(group)
         rows = counting.rows_in(files.tally())
         sums = counting.added(rows, lambda row: (row[0], None if place is None else row[place]))
-    order = list(selections)
-    return sorted(sums.items(), key=lambda it: (order.index(it[0][0]),
-                                                counting.nothing_first(it[0][1])))
+    return [(key, sums[key]) for key in counting.in_order(sums, selections)]
 
 
-def entries(files, group):
+def entries(files, group, said):
     """Each contest in each group: ids, names and numbers."""
     selections, names = counting.selections_of(files.report), page_names.Names(files.report)
-    said = notes.Notes(files)
     for (contest, key), numbers in sums_of(files, said, selections, group):
         held, votes = counting.parts(numbers)
         held.update((it, None) for it in NUMBERS if not said.is_stated(contest, it))
@@ -50,7 +50,7 @@ def entries(files, group):
 
 
 def shown(name, key):
-    return key if name is None else '%s (%s)' % (name, key)
+    return in_a_line(key if name is None else '%s (%s)' % (name, key))
 
 
 def as_text(made, group):
@@ -61,8 +61,7 @@ def as_text(made, group):
         where = ''
         if group is not None:
             key = it[GROUPS[group]]
-            name = 'no ' + group if key is None else shown(it.get('unit'), key)
-            where = ', %s %s' % (group, name) if key is not None else ', ' + name
+            where = ', no ' + group if key is None else ', %s %s' % (group, shown(it.get('unit'), key))
         yield '%s%s: %s\n' % (shown(it['contest']['name'], it['contest']['id']), where, numbers)
         for one in it['selections']:
             yield '  %s: %d\n' % (shown(one['name'], one['id']), one['votes'])
@@ -85,11 +84,16 @@ FORMS = 'text', 'csv', 'json'
 
 def run(files, words):
     """The text, and whether there is something to look at."""
-    made = list(entries(files, words.group))
+    said = notes.Notes(files)
+    made = list(entries(files, words.group, said))
+    ranked = [RANKED % (it['contest']['id'], ADVICE['ranked']) for it in made
+              if said.ranks.is_ranked(it['contest']['id'])]
+    ranked = list(dict.fromkeys(ranked))        # a contest has an entry in each group
     if words.form == 'csv':
-        return table.text_of(as_csv(made, words.group), words.spreadsheet), False
+        lines = [[it] for it in ranked] + list(as_csv(made, words.group))
+        return table.text_of(lines, words.spreadsheet), False
     if words.form == 'json':
-        said = {'said': list(files.reports.lines())} if files.reports.members() else {}
-        return written.text_of({'schema': 'cvr-audit totals 1', 'by': words.group, **said,
-                                'totals': made}), False
-    return ''.join(as_text(made, words.group)), False
+        lines = [*files.reports.lines(), *ranked]
+        return written.text_of({'schema': 'cvr-audit totals 1', 'by': words.group,
+                                **({'said': lines} if lines else {}), 'totals': made}), False
+    return ''.join([*(in_a_line(it) + '\n' for it in ranked), *as_text(made, words.group)]), False

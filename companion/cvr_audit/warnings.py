@@ -50,9 +50,10 @@ def conflict_lines(texts):
         yield kind, line
 
 
-def row_lines(row, numbers, allowed):
+def row_lines(row, numbers, most):
+    """The lines for a row, where a ballot has at most so many votes, or None where that isn't known."""
     held, (counted, total) = counting.parts(numbers)[0], counting.come_to(numbers)
-    name, most, ballots = list(map(spelled, row)), allowed.get(row[0]), held['ballots']
+    name, ballots = list(map(spelled, row)), held['ballots']
     for column in ('pending', 'unassigned'):
         if held[column]:
             yield column, [*name, str(held[column])]
@@ -99,8 +100,9 @@ def all_in(files, manifest, seen):
     yield from seen.notes.lines()
     yield from conflict_lines(seen.texts)
     rows, allowed = counting.rows_in(files.tally()), allowed_of(files.report)
+    is_ranked = seen.notes.ranks.is_ranked      # whose votes of all ranks stand in a row
     for row, numbers in rows.items():
-        yield from row_lines(row, numbers, allowed)
+        yield from row_lines(row, numbers, None if is_ranked(row[0]) else allowed.get(row[0]))
     yield from contest_lines(counting.selections_of(files.report), rows, seen.notes.is_stated)
     yield from (('record', list(map(spelled, name))) for name in seen.empty)
     yield from manifest_lines(manifest, seen.sizes) if manifest else ()

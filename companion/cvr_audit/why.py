@@ -4,13 +4,21 @@ import sys
 
 from . import instead, page_faults, program, reading, written
 from .compare import ABSENT, members
-from .gather_source import in_a_line
 from .reading import spelled
+from .terminal import in_a_line
 
 MOST = 200          # characters of a value, or members of an object, that are shown
 FORMS = 'text', 'json'
 REPORT = 'CVR.CastVoteRecordReport'
 FORM, AGREEMENT = 'E3', 'E5'
+# what an item of each array is called
+ITEMS = {
+    'Election': 'election', 'Contest': 'contest', 'ContestSelection': 'selection',
+    'Candidate': 'candidate', 'GpUnit': 'precinct or other unit', 'Party': 'party',
+    'ReportingDevice': 'device', 'CVR': 'record', 'CVRSnapshot': 'snapshot',
+    'CVRContest': 'contest', 'CVRContestSelection': 'selection', 'SelectionPosition': 'mark',
+    'Annotation': 'note of an adjudicator',
+}
 
 
 class Number(str):
@@ -26,10 +34,14 @@ def value_of(path):
             return None
 
 
+def steps_in(path):
+    """The steps of a JSON Pointer."""
+    return [it.replace('~1', '/').replace('~0', '~') for it in path.split('/')[1:]]
+
+
 def steps_of(place):
     """The steps of a path, as a log line has it."""
-    path = json.loads('"%s"' % place)
-    return [it.replace('~1', '/').replace('~0', '~') for it in path.split('/')[1:]]
+    return steps_in(json.loads('"%s"' % place))
 
 
 def at(value, steps):
@@ -42,6 +54,16 @@ def at(value, steps):
         else:
             return False, None
     return True, value
+
+
+def where(steps):
+    """A place in words: members, and the items that have them, numbered from 1."""
+    items, rest = [], steps[2:] if len(steps) > 2 and steps[0] == 'Election' else list(steps)
+    while len(rest) > 1 and rest[0] in ITEMS and rest[1].isdigit():
+        items.append('%s %d' % (ITEMS[rest[0]], int(rest[1]) + 1))
+        rest = rest[2:]
+    said = ' of '.join(it for it in ('/'.join(rest), ', '.join(items)) if it)
+    return cut(said) or page_faults.WHOLE
 
 
 def cut(text):
@@ -85,8 +107,9 @@ def told(path, fault, report):
     code = fault.split(' ', 1)[0]
     place, rule = page_faults.place_in(fault)
     means, advice = page_faults.in_words(fault)
-    made = {'file': path, 'code': code, 'rule': rule, 'path': None, 'record': None, 'value': None,
-            'around': None, 'definition': None, 'seems': None, 'kind': None, 'means': means, 'do': advice}
+    made = {'file': path, 'code': code, 'rule': rule, 'path': None, 'where': None, 'record': None,
+            'value': None, 'around': None, 'definition': None, 'seems': None, 'kind': None,
+            'means': means, 'do': advice}
     value = value_of(path) if code not in ('E1', 'E2') else None
     if code == 'E2' or code == FORM and not is_report(value):
         made['seems'], advice, made['kind'] = instead.seems(path, code != 'E2')
@@ -100,6 +123,7 @@ def told(path, fault, report):
     made['around'] = None if is_there else shown(at(value, steps[:-1])[1])
     if code == AGREEMENT:
         made['path'], made['value'], made['definition'] = difference(path, report, steps)
+    made['where'] = where(steps_in(made['path']))
     return made
 
 
@@ -120,7 +144,7 @@ def lines_of(made):
     place = [it for it in (made['path'], made['rule']) if it is not None]
     yield 'refused', ' '.join([spelled(made['file']), made['code'], *map(str, place)])
     yield 'means', made['means']
-    for name in 'record', 'value', 'around', 'definition', 'seems', 'kind':
+    for name in 'where', 'record', 'value', 'around', 'definition', 'seems', 'kind':
         held = made[name]
         if held is not None:
             yield name, ' '.join(map(spelled, held)) if name == 'record' else held

@@ -40,10 +40,9 @@ def texts_in(files, said):
 
 def run(files, words):
     """The text, and whether there is something to look at."""
-    said, order = notes.Notes(files), list(counting.selections_of(files.report))
+    said, selections = notes.Notes(files), counting.selections_of(files.report)
     held, lines = texts_in(files, said), []
-    for key in sorted(held, key=lambda it: (order.index(it[0]),
-                                            *map(counting.nothing_first, it[1:]))):
+    for key in counting.in_order(held, selections):
         text = held[key]
         lines.append('writein %s %d %d %d\n' % (' '.join(map(spelled, key)), text.votes,
                                                 text.pending, len(text.records)))

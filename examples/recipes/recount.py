@@ -1,5 +1,5 @@
 #!/usr/bin/env python3
-"""recount.py KIND EXPORT OUT [--cvr PATH] [--contests CONTEST=COLUMNS] [--left-out COLUMN] [--heads ORDER] [--test] [--manifest CSV]
+"""recount.py KIND EXPORT OUT [--cvr PATH] [--contests CONTEST=COLUMNS] [--left-out COLUMN] [--heads ORDER] [--means TEXT=MEANING] [--test] [--manifest CSV]
 
 Counts the votes of an export anew, by a few lines for each kind that share nothing with `cvr-audit`, and compares them
 with `cvr tally` of what `cvr-audit gather` made of the export (OUT). Each difference has a line; the status is 0 where
@@ -49,10 +49,17 @@ class Count:
     """Votes by contest, unit, batch and column, and the names of the records. `over` has for each contest how many ballots
     mark it, and how many of these too often; `doubts` are lines on what can be read in several ways."""
 
-    def __init__(self, cuts=(), order=None, left=()):
+    def __init__(self, cuts=(), order=None, left=(), means=()):
+        self.means = dict(it.replace('\\u200b', '\u200b').rsplit('=', 1) for it in means)
         self.left, self.device, self.ballots, self.now = left, None, {}, []
         self.votes, self.names, self.records = Counter(), set(), 0
         self.cuts, self.order, self.over, self.doubts = dict(it.rsplit('=', 1) for it in cuts), order, {}, []
+
+    def said(self, cell):
+        """A cell of ES&S: as --means has it, and else `undervote` where it says that there is no vote."""
+        if cell in self.means:
+            return {'absent': '', 'choice': cell}.get(self.means[cell], self.means[cell])
+        return 'undervote' if NO_VOTE.fullmatch(bare(cell)) else cell.lower() if cell.lower() in ('undervote', 'overvote') else cell
 
     def is_one(self, name):
         return ',' not in self.cuts.get(name, ',')
@@ -182,17 +189,12 @@ def bare(text):
     return re.sub('[^a-z0-9]', '', text.lower())
 
 
-def no_vote(cell):
-    """A cell of ES&S, where it says that there is no vote as `undervote`."""
-    return 'undervote' if NO_VOTE.fullmatch(bare(cell)) else cell.lower() if cell.lower() in ('undervote', 'overvote') else cell
-
-
-def may_be_other(name, columns, is_named):
+def may_be_other(count, name, columns, is_named):
     """What the columns of a contest of ES&S may be beside that, as lines: `columns` has the cells of each where the contest is on the
     ballot. Where --contests names them, words alone are asked for."""
     cells = {it for column in columns for it in column}
-    chosen = {it for it in cells if no_vote(it) not in ('undervote', 'overvote')}
-    yield from ('%s: what says %s?' % (name, it) for it in sorted(chosen) if UNSURE.fullmatch(bare(it)))
+    chosen = {it for it in cells if count.said(it) not in ('undervote', 'overvote')}
+    yield from ('%s: what says %s?' % (name, it) for it in sorted(chosen) if UNSURE.fullmatch(bare(it)) and it not in count.means)
     if is_named or not cells:
         return
     if not chosen or chosen == cells and all(label(it) != WRITTEN for it in chosen):
@@ -218,13 +220,13 @@ def ess(count, path):
             is_unclear = OF_DOUBT.fullmatch(bare(it)) or re.search(r'(choice|rank|ranking|preference) ?#?\d|(\d(st|nd|rd|th)|first|second|third) (choice|rank|preference)', it.lower())
             count.doubts += ['%s: may say whether a ballot counts, or have ranks' % it] * (it not in count.cuts and bool(is_unclear))
     count.doubts += ['%s: has undervotes' % heads[i] for i in left if heads[i] not in count.left and {'undervote', 'overvote'} & {row[i].lower() for row in rows}]
-    words = {it.lower() for row in rows for places in held.values() for it in (row[i] for i in places) if it and no_vote(it) == 'undervote'}
+    words = {it.lower() for row in rows for places in held.values() for it in (row[i] for i in places) if it not in count.means and count.said(it) == 'undervote'}
     count.doubts += ['%s both say that there is no vote' % ' and '.join(sorted(words))] * (len(words) > 1)
     alike = {}
     for name, places in held.items():
-        columns = [[row[i] for row in rows if row[i]] for i in places]
-        count.doubts += may_be_other(name, columns, heads[places[0]] in count.cuts)
-        chosen = {it for column in columns for it in column if no_vote(it) not in ('undervote', 'overvote') and label(it) != WRITTEN
+        columns = [[row[i] for row in rows if count.said(row[i])] for i in places]
+        count.doubts += may_be_other(count, name, columns, heads[places[0]] in count.cuts)
+        chosen = {it for column in columns for it in column if count.said(it) not in ('undervote', 'overvote') and label(it) != WRITTEN
                   and re.split('[^a-zí]', it.lower())[0] not in ('yes', 'no', 'for', 'against', 'approve', 'approved', 'reject', 'rejected', 'retain', 'do', 'si', 'sí')}
         others = alike.setdefault(re.sub(r'\d+', '#', name), [])
         count.doubts += ['%s and %s have two choices in common' % (one, name) for one, its in others if len(its & chosen) > 1 and not {one, name} <= {*count.cuts}]
@@ -232,7 +234,7 @@ def ess(count, path):
     for row in rows:
         count.record(row[number])
         for name, places in held.items():
-            words = [no_vote(row[i]) for i in places]
+            words = [count.said(row[i]) for i in places]
             if any(words):
                 chosen = [it for it in words if it not in ('undervote', 'overvote')]
                 count.contest((name, row[unit], None), chosen, words.count('overvote'), words.count('undervote'))
@@ -394,10 +396,10 @@ def unsaid(out, is_test, lacking, is_meant):
     return found + ['the export lacks: ' + ', '.join(lacking)] * (lacking != [] and 'incomplete' not in words)
 
 
-def differences(kind, export, cvr, out, cuts=(), order=None, is_meant=False, manifest=None, left=(), devices=(), allowed=()):
+def differences(kind, export, cvr, out, cuts=(), order=None, is_meant=False, manifest=None, left=(), devices=(), allowed=(), means=()):
     """Where the export and the tally differ, as lines; with it the number of votes that were compared. With names of devices there
     is an export of each."""
-    count = Count(cuts, order, left)
+    count = Count(cuts, order, left, means)
     count.allowed = {name: int(number) for name, number in (it.rsplit('=', 1) for it in allowed)}
     for path, count.device in zip(export if devices else [export], devices or [None]):
         KINDS[kind](count, path)
@@ -423,12 +425,13 @@ def main():
     words.add_argument('--contests', metavar='CONTEST=COLUMNS', action='append', default=[], help='as given to cvr-audit gather')
     words.add_argument('--left-out', metavar='COLUMN', action='append', default=[], help='as given to cvr-audit gather')
     words.add_argument('--heads', metavar='ORDER', help='as given to cvr-audit gather')
+    words.add_argument('--means', metavar='TEXT=MEANING', action='append', default=[], help='as given to cvr-audit gather')
     words.add_argument('--votes', metavar='CONTEST=N', action='append', default=[], help='as given to cvr-audit gather')
     words.add_argument('--test', action='store_true', help='reports of a test beside others are meant')
     words.add_argument('--manifest', metavar='CSV', help='as given to cvr-audit gather')
     words = words.parse_args()
     found, compared = differences(words.kind, words.export, words.cvr, words.out, words.contests, words.heads, words.test, words.manifest, words.left_out,
-                                  allowed=words.votes)
+                                  allowed=words.votes, means=words.means)
     print('\n'.join(found + ['%d votes compared, %d differences' % (compared, len(found))]))
     sys.exit(1 if found else 0)
 

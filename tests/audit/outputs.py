@@ -93,7 +93,40 @@ def see_length(companion, cvr, folder):
         yield 'a page of %d bytes of files of %d: status %d, log %r' % (size, length, status, log)
 
 
-SEEN = see_modes, see_failure, see_modules, see_length
+def named_below(name, number):
+    """A report with a member of a long name over many numbers, which another number begins."""
+    report = json.loads(rows.county('scan.json'))
+    report['CVR'][0]['CVRSnapshot'][0]['Annotation'] = [{'@type': 'CVR.Annotation', name: [number] * len(name)}]
+    return json.dumps(report)
+
+
+def see_long_names(companion, cvr, folder):
+    """Two texts that differ in many places below a member of a long name are compared in one line."""
+    length = 0
+    for number in 1, 2:
+        with open(os.path.join(folder, '%d.json' % number), 'w', encoding='utf-8') as file:
+            length += file.write(named_below('n' * 20000, number))
+    words = ['compare', 'definition.json', '--one', '1.json', '--other', '2.json']
+    done = subprocess.run([sys.executable, os.path.join(companion, 'cvr-audit'), *words], cwd=folder, env=dict(os.environ, CVR=cvr),
+                          stdout=subprocess.PIPE, stderr=subprocess.PIPE, timeout=rows.SECONDS)
+    if done.returncode != 1 or not length / 2 < len(done.stdout) < 2 * length:
+        yield 'a comparison of %d bytes of files of %d: status %d, log %r' % (len(done.stdout), length, done.returncode, done.stderr)
+
+
+def see_programs(companion, cvr, folder):
+    """A run writes over none of the programs that it runs."""
+    for name, more in ('second', ['--second', './second']), ('first', []):
+        path = os.path.join(folder, name)
+        with open(path, 'w') as file:
+            file.write('#!/bin/sh\nexec "$REAL" "$@"\n')
+        os.chmod(path, 0o755)
+        log, status = run(companion, cvr if more else './first', folder, ['page', 'definition.json', 'scan.json', *more, '-o', name], REAL=cvr)
+        with open(path) as file:
+            if (status, log) != (2, "cvr-audit: %s: it is read, so it can't be written\n" % name) or not file.read().startswith('#!'):
+                yield 'a program %s that is written over: status %d, log %r' % (name, status, log)
+
+
+SEEN = see_modes, see_failure, see_modules, see_length, see_long_names, see_programs
 
 
 def differences(companion, cvr, see):

@@ -10,8 +10,9 @@ the public, it tests
 - every number, compared with what `cvr` prints (page_numbers.py);
 - what a reader can work out of the numbers that are withheld, also by trying what each file could be
   (page_masks.py);
-- that a page for the public withholds what the rule does, and what follows from the rule: by a solver
-  (page_ranges.py), and by trying all tables of small counties (page_tables.py);
+- that a page for the public withholds what the rule does; which selections this is, by hand
+  (page_order.py); and what follows from the rule: by a solver (page_ranges.py), and by trying all tables
+  of small counties (page_tables.py);
 - the tree of heads, the heads of tables, that nothing is fetched or run, and that `tidy` reads the
   page as HTML5 (page_form.py);
 - how Chromium shows it in a wide and a narrow window, and prints it (page_views.py).
@@ -21,11 +22,13 @@ program counted.
 
 Beside that the slips of page_ways.py: each is made in a copy, and the county or the sets have to find
 it. With --companion the copy in that folder is tested, without a browser and without the largest sets,
-until something is wrong; with --masks only what follows from what it withholds. Where a tool isn't
+until something is wrong; with --masks WHAT only a part of what the rule withholds: `order`, `tables` or
+`ranges`. Where a tool isn't
 there a line `left out` says so. With --tenth a tenth of the sets and of the slips are tried. --picture
 writes the picture that README shows.
 The last line is `page: N right, M wrong`; the status is 0 only where M is 0 and N is not."""
 import hashlib
+import itertools
 import json
 import os
 import random
@@ -47,6 +50,7 @@ import journal       # noqa: E402
 import page_form     # noqa: E402
 import page_masks    # noqa: E402
 import page_numbers  # noqa: E402 (it needs printed of rows/)
+import page_order    # noqa: E402
 import page_ranges   # noqa: E402
 import page_sets     # noqa: E402
 import page_tables   # noqa: E402
@@ -71,6 +75,52 @@ Selection | No rank
 Low low | 0
 High high | 30
 """
+WRITE_INS = ["""### Mayor mayor
+Ballots: 513
+table: Selections
+Selection | Votes
+Ann ann | 266
+Bob bob | *
+Write-in mayor-1 | *
+Write-in mayor-2 | *
+### Sheriff sheriff
+Ballots: 513
+table: Selections
+Selection | Votes
+Dan dan | 463
+Eve eve | 24
+Write-in sheriff-1 | *
+Write-in sheriff-2 | *
+### Clerk clerk
+Ballots: 513
+table: Selections
+Selection | Votes
+Cyd cyd | *
+Write-in clerk-1 | *
+%s
+""" % page_numbers.LEADER, """### Mayor mayor
+table: By unit
+Unit | Ann ann
+Unit 0 u0 | 150
+Unit 1 u1 | 116
+Sum | 266
+### Sheriff sheriff
+table: By unit
+Unit | Dan dan
+Unit 0 u0 | 230
+Unit 1 u1 | 233
+Sum | 463
+### Clerk clerk
+Withheld.
+""", """### Coroner coroner
+Ballots: 513
+table: Selections
+Selection | Votes
+Fay fay | 120
+Gus gus | *
+Write-in coroner-1 | *
+Write-in coroner-2 | *
+"""]                        # of page_sets.write_ins()
 TOO_MANY = ['Votes and unassigned come to 7, and the ballots have 6: too many.\n', ' 3 2: School board (board)\n']
 COUNTS = """Contest | cvr: ballots | cvr: votes | cvr-audit: ballots | cvr-audit: votes | second: ballots | second: votes
 County Council council | 4 | 2 | 4 | 2 | 4 | 2
@@ -79,6 +129,7 @@ LARGE, BYTES = 3000, 250000     # ballots, and the bytes that their page may hav
 NO_ROUNDS = 'The votes of this contest are ranks or scores: they stand by rank, and no rounds are computed.'
 SECONDS = 1800      # which a slip may take beside proofs
 SIDE_BY_SIDE = 4
+SHOWN = 9           # what is printed of what is wrong with one thing
 SETS, FEW = 40, 8   # random ones, and those with which a slip is tried
 
 
@@ -98,7 +149,7 @@ class Trial:
         """Counts a thing that was tested, and prints what is wrong with it."""
         with self.lock:
             self.right, self.wrong = self.right + (not wrong), self.wrong + bool(wrong)
-            for line in wrong[:9]:
+            for line in wrong[:SHOWN]:
                 print('WRONG %s: %s' % (what, line))
         if wrong and not self.is_seen:
             raise Found
@@ -190,14 +241,19 @@ def see_second(trial, folder):
     trial.see('a second program', ['%r is not there' % it for it in wanted if it not in said])
 
 
-def see_lines(trial, what, made, wanted, absent=()):
+def see_public(trial, what, made, wanted):
+    """Tests that the page of a set for the public has these lines."""
+    see_lines(trial, what, made, wanted, words=['--public'])
+
+
+def see_lines(trial, what, made, wanted, absent=(), words=('--test',)):
     """Tests that the page of a set has these lines, and none of the others. Reports of a test beside others are meant."""
     held = page_sets.texts_of(made)
     with tempfile.TemporaryDirectory() as folder:
         for path, data in held.items():
             with open(os.path.join(folder, path), 'wb') as file:
                 file.write(data)
-        text, log, status = trial.page(folder, 'def.json', [it for it in held if it != 'def.json'], '--test')
+        text, log, status = trial.page(folder, 'def.json', [it for it in held if it != 'def.json'], *words)
     lines = ''.join(it + '\n' for it in page_text.lines(page_text.read(text)))
     wrong = ['status %d: %s' % (status, log)] * bool(status)
     wrong += ['%r is not there' % it for it in wanted if it not in lines]
@@ -311,7 +367,9 @@ def mask_wrong(trial, tally, masks):
     contests = [{unit: numbers[:1] + numbers[end:] for unit, numbers in tally.sums(key, 0).items()}
                 for key in tally.contests]
     singles = [tally.allowed[key] == 1 and key not in tally.ranked for key in tally.contests]
-    for key, held, mask, wanted in zip(tally.contests, contests, masks, trial.package.page_masking.masks(contests, singles)):
+    write_ins = [{place for place, one in enumerate(it) if one.get('IsWriteIn')} for it in tally.contests.values()]
+    rule = trial.package.page_masking.masks(contests, singles, write_ins)
+    for key, held, mask, wanted in zip(tally.contests, contests, masks, rule):
         if key in tally.ranked:         # of which a page for the public shows the ballots alone
             mask, wanted = (*mask[:2], set(), set(), set()), (*wanted[:2], set(), set(), set())
         *mask, units = map(plain, mask)
@@ -332,7 +390,7 @@ def see_way(trial, way):
     with tempfile.TemporaryDirectory() as folder:
         copy = companion.made(folder, way)
         words = [sys.executable, os.path.abspath(__file__), '--cvr', trial.cvr, '--companion', copy]
-        words += ['--masks'] * (way.seen in page_ways.MASKED)
+        words += ['--masks', way.seen] * (way.seen in page_ways.MASKED)
         out, log, status = run(folder, *words)
     lines = [line for line in out.splitlines() if line.startswith('WRONG ') and way.seen in line]
     is_broken = any(it in out + log for it in ('Error', 'Traceback'))
@@ -362,6 +420,8 @@ def pages(trial, words):
     yield see_lines, 'ranks', page_sets.ranked(), [RANKS, SCORES, NO_ROUNDS], ['| 60\n', 'come to 60', ' | 60 |']
     yield see_lines, 'a test', of_a_test(page_sets.machines(9, most=3)), ['TEST: 2 of 3 reports are of a test\nINCOMPLETE: 1 of 3 reports lack ballots\nTEST INCOMPLETE\n']
     yield see_lines, 'too many votes', page_sets.too_many(), TOO_MANY
+    yield see_public, 'write-ins', page_sets.write_ins(), WRITE_INS
+    yield see_set, 'set of write-ins', page_sets.texts_of(page_sets.write_ins()), True
     yield see_lines, 'machines', page_sets.machines(9), ['## Adjudications\nNone.\n']
     for name, made in tenth.chosen(words.tenth, sets(words), itemgetter(0)):
         held = made()
@@ -370,9 +430,13 @@ def pages(trial, words):
 
 
 def see_masks(trial, words):
-    """Tests what follows from what the rule withholds."""
-    trial.see('tables', list(page_tables.wrong_of(trial.package.page_masking, trial.is_seen)))
-    ranges = page_ranges.wrong_of(trial.package.page_masking)
+    """Tests what the rule withholds, and what follows from it."""
+    rule = trial.package.page_masking
+    if words.masks in (None, 'order'):
+        trial.see('order', list(page_order.wrong_of(rule)))
+    if words.masks in (None, 'tables'):
+        trial.see('tables', list(itertools.islice(page_tables.wrong_of(rule, trial.is_seen), SHOWN)))
+    ranges = page_ranges.wrong_of(rule) if words.masks in (None, 'ranges') else []
     if ranges is None:
         tenth.leave_out('the ranges of withheld numbers, and slips that these find', 'glpsol is not there')
     else:
@@ -396,7 +460,7 @@ def see_all(trial, words):
 def main():
     words = tenth.words()
     words.add_argument('--companion', help='a folder with a copy of the companion')
-    words.add_argument('--masks', action='store_true', help='test only what follows from what is withheld')
+    words.add_argument('--masks', choices=page_ways.MASKED, help='test only a part of what is withheld')
     words.add_argument('--picture', help='write the picture of the county that README shows')
     words = words.parse_args()
     trial = Trial(words.cvr, os.path.abspath(words.companion or companion.compiled()), not words.companion)

@@ -33,12 +33,20 @@ def wrong_of(page, text):
     style = next(page.all('style')).text()
     if 'url(' in style or '@import' in style:
         yield 'the style fetches something'
-    if not re.search(r"@bottom-center \{ content: '[^']+' \}", style):
-        yield 'no election in the margins'
+    yield from margins_wrong(style, next(page.all('title')).text())
     yield from regions_wrong(page)
     if UNSHOWN.search(text):
         yield 'the sign %r' % UNSHOWN.search(text).group()
     yield from tidied(text)
+
+
+def margins_wrong(style, title):
+    """What is wrong with the election's name in the margins, as a browser reads it: an escape ends with a space."""
+    found = re.search(r"@bottom-center \{ content: '([^']+)' \}", style)
+    text = re.sub(r'\\([0-9a-f]{1,6})\s?', lambda it: chr(int(it.group(1), 16)), found.group(1)) if found else ''
+    name = ' '.join(text.rstrip('…').split())
+    if not name or not title.startswith('UNOFFICIAL: ' + name):
+        yield 'the margins have %r' % text
 
 
 def nodes(node):

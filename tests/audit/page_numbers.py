@@ -11,10 +11,13 @@ WORD = re.compile(r'"(?:[^"\\]|\\.)*"|[^ ]+')
 COLUMNS = [it.capitalize() for it in printed.Texts.columns]
 END = len(COLUMNS)
 HIDDEN = '*'
+LEADER = ('The votes of its leader are withheld, too. To show them, add up more units first: make one page of the files '
+          'of all of them.')
 RANKED = 'borda', 'range', 'rcv'
 MAY_LACK = [COLUMNS.index(it) for it in ('Overvotes', 'Undervotes')]    # where no file states them
-WARNINGS = ['File refused', 'No file', 'DEF among the files', 'Records in DEF', 'Two headers of a record',
-            'Two texts of a snapshot', 'Another snapshot is named as current', 'One record several times in a file',
+WARNINGS = ['File refused', 'No file', 'The definition is among the files', 'Records in the definition',
+            'Two headers of a record (unit, batch, style)', 'Two texts of a snapshot (a reading of a ballot)',
+            'Another snapshot (reading) is named as current', 'One record several times in a file',
             'One ballot twice', 'Batch', 'More votes on a ballot than it has', 'Several votes of a ballot for one',
             'Too many votes', 'Sum', 'Waiting', 'Pending', 'Unassigned', 'Contest without a record',
             'Record without a contest', 'Decided without a name or a moment', 'Decided by nobody',
@@ -83,6 +86,8 @@ class Held:
     def see_contest(self, part, key):
         numbers = self.tally.total(key)
         tables = list(part.all('table'))
+        if self.is_public:
+            self.see_leader(part, key)
         if self.is_public and not tables and not list(part.all('dl')):
             every = {*range(len(numbers) - END)}
             self.masks[key] = True, True, every, every, {*self.tally.sums(key, 0)}
@@ -103,6 +108,15 @@ class Held:
             self.wrong.append('%s: a table of ranks' % key)
         if not self.is_public:
             self.see_sums(list(part.all('p'))[-1].text(), key, numbers)
+
+    def see_leader(self, part, key):
+        """What shows the votes of the leader is said where those of every selection are withheld, and nowhere else,
+        so that it doesn't say whose votes are the most."""
+        rows = [row for table in part.all('table') for row in page_text.rows(table)[1:]]
+        is_said = any(it.text() == LEADER for it in part.all('p'))
+        is_withheld = all(row[1].text() == HIDDEN for row in rows) and key not in self.tally.ranked
+        if is_said != (is_withheld or not list(part.all('dl'))):
+            self.wrong.append('%s: what shows its leader is %ssaid' % (key, '' if is_said else 'not '))
 
     def see_votes(self, table, key, ballots, votes):
         """The votes, beside bars and with per cents, unless some are withheld."""
@@ -255,8 +269,8 @@ class Held:
 
     def see_counts(self, own):
         """On a page for the public: DEF, by its SHA-256 only if it has no records."""
-        digest = '#' if own == '0' else 'withheld, since DEF has records'
-        wanted = ['## Inputs', 'DEF: SHA-256 ' + digest, 'The records of DEF are not counted.']
+        digest = '#' if own == '0' else 'withheld, since it has records'
+        wanted = ['## Inputs', 'Definition: SHA-256 ' + digest, 'The records of the definition (DEF) are not counted.']
         lines = [re.sub('[0-9a-f]{64}', '#', it) for it in page_text.lines(self.sections['inputs'])]
         if lines != wanted:
             self.wrong.append('inputs: %s' % lines[:4])

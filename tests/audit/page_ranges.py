@@ -16,9 +16,9 @@ LEAST = 10
 RANDOM = 8      # counties beside those of COUNTIES
 SECONDS = 120
 
-# A contest: of each unit the ballots and the votes; how many a ballot may have; and whether the page knows
-# that it is one.
-Contest = namedtuple('Contest', 'held allowed is_single', defaults=[1, True])
+# A contest: of each unit the ballots and the votes; how many a ballot may have; whether the page knows
+# that it is one; and the places of write-ins.
+Contest = namedtuple('Contest', 'held allowed is_single write_ins', defaults=[1, True, frozenset()])
 # Counties by name, in which every ballot has all its votes.
 COUNTIES = {
     # a contest of all units, and one of all but the smallest: together they show its ballots
@@ -28,14 +28,20 @@ COUNTIES = {
     'few ballots': [Contest({'u0': [100, 50, 50], 'u1': [90, 45, 45], 'u2': [4, 3, 1]}),
                     Contest({'u1': [90, 50, 40], 'u2': [4, 1, 3]})],
     # the other votes of a unit, whose ballots the first contest shows
-    'other votes': [Contest({'u0': [60, 30, 30], 'u1': [53, 30, 23]}),
-                    Contest({'u0': [60, 20, 20, 10, 10], 'u1': [53, 30, 20, 2, 1]})],
+    'other votes': [Contest({'u0': [102, 51, 51], 'u1': [53, 30, 23]}),
+                    Contest({'u0': [102, 30, 35, 37], 'u1': [53, 48, 3, 2]})],
     # nearly all ballots have a vote for the selection that is withheld beside a small one; and nearly all of
     # two units, of which one is small
     'nearly all': [Contest({'u0': [14, 8, 13, 11, 10]}, 3, False)],
     'nearly all of units': [Contest({'u0': [60, 30, 30], 'u1': [80, 40, 40], 'u2': [40, 20, 20]}),
                             Contest({'u0': [60, 10, 59, 55, 56], 'u1': [80, 60, 60, 60, 60],
                                      'u2': [40, 4, 38, 39, 39]}, 3, False)],
+    # one selection with few votes for its units, whose ballots the other contest shows
+    'one alone': [Contest({'u0': [92, 40, 40, 12], 'u1': [92, 45, 35, 12], 'u2': [92, 38, 42, 12]}),
+                  Contest({'u0': [92, 50, 42], 'u1': [92, 42, 50], 'u2': [92, 46, 46]})],
+    # few votes for write-ins alone, of which two are withheld, and many for the others in each unit
+    'write-ins': [Contest({'u0': [600, 330, 260, 6, 4], 'u1': [500, 240, 258, 1, 1]}, write_ins={2, 3}),
+                  Contest({'u0': [600, 300, 298, 2], 'u1': [500, 250, 250, 0]}, write_ins={2})],
 }
 
 
@@ -52,7 +58,8 @@ def county(chance):
         weights = [chance.choice([0.02, 0.3, 1, 1]) for _ in range(allowed + chance.randint(1, 3))]
         held = {it: votes_of(chance, ballots[it], weights, allowed, is_full) for it in inside}
         if held:
-            contests.append(Contest(held, allowed, allowed == 1 and chance.random() < 0.8))
+            is_single = allowed == 1 and chance.random() < 0.8
+            contests.append(Contest(held, allowed, is_single, chance.choice([set(), {0}, {0, 1}])))
     return contests, is_full
 
 
@@ -79,7 +86,7 @@ def known(contests, masks, is_full):
     """The lines of what is known, in the solver's form; and each withheld number: its name in words, the
     number, and a sum of unknowns that comes to it."""
     lines, hidden = [], []
-    for place, ((held, allowed, _), mask) in enumerate(zip(contests, masks)):
+    for place, ((held, allowed, *_), mask) in enumerate(zip(contests, masks)):
         for unit, numbers in held.items():
             names = [name_of('x', place, unit, one) for one in range(len(numbers) - 1)]
             lines.append('%s - %d b_%s %s 0' % (' + '.join(names), allowed, unit, '=' if is_full else '<='))
@@ -162,7 +169,7 @@ def wrong_of(masking):
     found, tried = [], [(name, held, True) for name, held in COUNTIES.items()]
     tried += [(it, *county(random.Random(it))) for it in range(1, 1 + RANDOM)]
     for name, contests, is_full in tried:
-        masks = masking.masks([it.held for it in contests], [it.is_single for it in contests])
+        masks = masking.masks(*zip(*((it.held, it.is_single, it.write_ins) for it in contests)))
         for what, votes, ends in ranges(solver, contests, masks, is_full):
             if not is_safe(*ends):
                 found.append('county %s: %s is %d, and is seen to be from %d to %s' % (name, what, votes, *ends))

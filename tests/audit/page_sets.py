@@ -166,6 +166,38 @@ def uneven(chance, units=7):
     return report(contests, places), {'records.json': report(contests, places, records)}
 
 
+def write_ins():
+    """Contests with few votes for write-ins in two units: one in which a candidate is withheld beside them, one in
+    which nobody is, and one with a single candidate. And one in which a write-in that is withheld leads."""
+    units = [('u0', 'Unit 0'), ('u1', 'Unit 1')]
+    contests = [candidates('mayor', 'Mayor', [('ann', 'Ann'), ('bob', 'Bob')], 2),
+                candidates('sheriff', 'Sheriff', [('dan', 'Dan'), ('eve', 'Eve')], 2),
+                candidates('clerk', 'Clerk', [('cyd', 'Cyd')], 1),
+                candidates('coroner', 'Coroner', [('fay', 'Fay'), ('gus', 'Gus')], 2)]
+    made = report([], units)
+    made['Election'][0].update(Contest=[contest for contest, _ in contests],
+                               Candidate=[it for _, held in contests for it in held])
+    votes = [[(150, 100, 2, 3), (230, 12, 11, 2), (252, 3), (60, 2, 188, 5)],
+             [(116, 140, 1, 1), (233, 12, 11, 2), (257, 1), (60, 1, 192, 5)]]
+    records, keys = [], [it['@id'] for it, _ in contests]
+    for (unit, _), numbers in zip(units, votes):
+        held = [[[one['@id']] for one, number in zip(contest['ContestSelection'], each) for _ in range(number)]
+                for (contest, _), each in zip(contests, numbers)]
+        records += [record(len(records) + place, unit, 'batch', dict(zip(keys, chosen)))
+                    for place, chosen in enumerate(zip(*held))]
+    return made, {'records.json': dict(made, CVR=records)}
+
+
+def candidates(key, title, people, count):
+    """A contest of people and of so many write-ins, and its candidates."""
+    named = [{'@type': 'CVR.Candidate', '@id': 'person-' + one, 'Name': name} for one, name in people]
+    chosen = [{'@type': 'CVR.CandidateSelection', '@id': one, 'CandidateIds': ['person-' + one]} for one, _ in people]
+    chosen += [{'@type': 'CVR.CandidateSelection', '@id': '%s-%d' % (key, place), 'IsWriteIn': True}
+               for place in range(1, 1 + count)]
+    return {'@type': 'CVR.CandidateContest', '@id': key, 'Name': title, 'VotesAllowed': 1,
+            'ContestSelection': chosen}, named
+
+
 def too_many():
     """Three ballots with seven votes in a contest that allows two of each: one has three."""
     contests = [('board', 'School board', 2, [('ann', 'Ann'), ('bob', 'Bob'), ('cyd', 'Cyd')])]

@@ -6,18 +6,35 @@ its votes: in each contest of a unit they come to the same ballots, or to severa
 withheld number has to take as many values as the bound says, or all below it, in the counties that give
 the page."""
 import itertools
+from collections import namedtuple
+from math import inf
 
-LEAST = 2
-# of each contest the number of its selections, its units, and the votes of a ballot; and the greatest sum of
-# ballots
+# A contest: the number of its selections, its units, the votes of a ballot, and the places of write-ins.
+Contest = namedtuple('Contest', 'count units allowed write_ins', defaults=[1, frozenset()])
+# Of each county the bound, its contests, and the greatest sum of ballots, or the ballots of each unit, which a reader
+# knows then.
 COUNTIES = [
-    ('two contests', [(2, (0, 1), 1), (2, (0, 1), 1)], 10),
-    ('three units', [(2, (0, 1, 2), 1)], 13),
-    ('three selections', [(3, (0, 1), 1)], 12),
-    ('two votes for three selections', [(3, (0, 1), 2)], 11),
-    ('a contest of two votes beside one of one vote', [(2, (0, 1), 1), (3, (0, 1), 2)], 7),
-    ('a contest of two units of three', [(2, (0, 1, 2), 1), (2, (0, 1), 1)], 8),
-    ('a contest of each unit', [(2, (0, 1), 1), (2, (0,), 1), (2, (1,), 1)], 9),
+    # which selections of a contest are withheld
+    ('two votes for four selections', 3, [Contest(4, (0,), 2)], 13),
+    ('two votes, and a write-in', 3, [Contest(4, (0,), 2, {3})], 13),
+    ('two votes, and two write-ins', 3, [Contest(4, (0,), 2, {0, 3})], 13),
+    ('four selections', 3, [Contest(4, (0,))], 24),
+    ('two write-ins among four', 3, [Contest(4, (0,), 1, {1, 2})], 24),
+    ('five selections, two of them write-ins', 2, [Contest(5, (0,), 1, {1, 4})], 16),
+    # also by unit
+    ('three units whose ballots are known', 3, [Contest(2, (0, 1, 2))], (12, 8, 10)),
+    ('four units whose ballots are known', 2, [Contest(2, (0, 1, 2, 3))], (7, 5, 6, 7)),
+    ('three units whose ballots are known, and a write-in', 2, [Contest(3, (0, 1, 2), 1, {2})], (5, 4, 6)),
+    ('three units', 2, [Contest(2, (0, 1, 2))], 13),
+    ('three selections', 2, [Contest(3, (0, 1))], 12),
+    ('a write-in among three selections', 2, [Contest(3, (0, 1), 1, {1})], 12),
+    ('two votes for three selections', 2, [Contest(3, (0, 1), 2)], 11),
+    ('a write-in, and two votes', 2, [Contest(3, (0, 1), 2, {2})], 11),
+    ('two contests', 2, [Contest(2, (0, 1)), Contest(2, (0, 1))], 10),
+    ('a contest of two votes beside one of one vote', 2, [Contest(2, (0, 1)), Contest(3, (0, 1), 2)], 7),
+    ('a contest of two units of three', 2, [Contest(2, (0, 1, 2)), Contest(2, (0, 1))], 8),
+    ('a contest of two units of three, and more that is small', 3, [Contest(2, (0, 1, 2)), Contest(2, (0, 1))], 8),
+    ('a contest of each unit', 2, [Contest(2, (0, 1)), Contest(2, (0,)), Contest(2, (1,))], 9),
 ]
 
 
@@ -33,21 +50,23 @@ def splits(total, count, most):
 
 def unit_tables(contests, unit, ballots):
     """Each table of a unit: the votes in each of its contests."""
-    inside = [(count, allowed) for count, units, allowed in contests if unit in units]
-    return itertools.product(*(list(splits(ballots * allowed, count, ballots)) for count, allowed in inside))
+    inside = [it for it in contests if unit in it.units]
+    return itertools.product(*(list(splits(ballots * it.allowed, it.count, ballots)) for it in inside))
+
+
+def sums_up_to(most, count):
+    """Each way in which so many numbers from 1 on come to the greatest sum or less."""
+    return (it for it in itertools.product(range(1, most), repeat=count) if sum(it) <= most)
 
 
 def tables(contests, most):
     """Each county: of each contest its units with ballots and votes."""
-    units = sorted({unit for _, held, _ in contests for unit in held})
-    for ballots in itertools.product(range(1, most), repeat=len(units)):
-        if sum(ballots) > most:
-            continue
+    units = sorted({unit for it in contests for unit in it.units})
+    for ballots in [most] if isinstance(most, tuple) else sums_up_to(most, len(units)):
         each = [list(unit_tables(contests, unit, ballots[unit])) for unit in units]
         for votes in itertools.product(*each):
             left = [iter(it) for it in votes]
-            yield [{unit: [ballots[unit], *next(left[unit])] for unit in held}
-                   for _, held, _ in contests]
+            yield [{unit: [ballots[unit], *next(left[unit])] for unit in it.units} for it in contests]
 
 
 def numbers_of(masks, county):
@@ -65,14 +84,14 @@ def numbers_of(masks, county):
 def pages(masking, contests, most):
     """For each page the counties that give it: of each withheld number, by name, its values; and the
     least sum of ballots."""
-    held, singles = {}, [allowed == 1 for _, _, allowed in contests]
+    held, singles, write_ins = {}, [it.allowed == 1 for it in contests], [it.write_ins for it in contests]
     for county in tables(contests, most):
-        masks = masking.masks(county, singles)
+        masks = masking.masks(county, singles, write_ins)
         shown, hidden = [], []
         for name, number, is_shown in numbers_of(masks, county):
             (shown if is_shown else hidden).append((name, number))
         key = str(masks), tuple(shown)
-        values, ballots = held.get(key, ({}, most))
+        values, ballots = held.get(key, ({}, inf))
         for name, number in hidden:
             values.setdefault(name, set()).add(number)
         held[key] = values, min(ballots, sum({unit: votes[0] for it in county
@@ -84,20 +103,25 @@ def is_safe(values, least):
     return len(values) >= least or values >= set(range(least))
 
 
-def wrong_of(masking, is_all=True, bound=LEAST):
+def wrong_of(masking, is_all=True):
     """What a reader finds in small counties, or in some still smaller ones, as lines."""
-    masking.LEAST, masking.EACH, old = bound, bound // 2, (masking.LEAST, masking.EACH)
+    old = masking.LEAST, masking.EACH
     try:
-        for what, contests, most in COUNTIES:
-            yield from county_wrong(masking, what, contests, most - 2 * (not is_all), bound)
+        for what, bound, contests, most in COUNTIES:
+            masking.LEAST, masking.EACH = bound, bound // 2
+            yield from county_wrong(masking, what, contests, less_of(most, is_all), bound)
     finally:
         masking.LEAST, masking.EACH = old
+
+
+def less_of(most, is_all):
+    return most if is_all or isinstance(most, tuple) else most - 2
 
 
 def county_wrong(masking, what, contests, most, bound):
     for (masks, shown), (values, ballots) in pages(masking, contests, most).items():
         # where a page doesn't show all ballots, a county with more than were tried could give it, too
-        is_tried = ballots + 2 * bound <= most or ((0, 'ballots'), ballots) in shown
+        is_tried = isinstance(most, tuple) or ballots + 2 * bound <= most or ((0, 'ballots'), ballots) in shown
         for name, held in values.items():
             if is_tried and name[1] != 'ballots' and not is_safe(held, bound):
                 yield '%s: %s is one of %s on the page %s %s' % (what, name, sorted(held), masks, shown)

@@ -5,9 +5,9 @@ import shutil
 from collections import namedtuple
 
 Way = namedtuple('Way', 'name file old new seen', defaults=[''])
-MASKED = 'tables', 'ranges'     # what follows from what is withheld, without a page
+MASKED = 'order', 'tables', 'ranges'    # what is withheld, and what follows from it, without a page
 FOLLOWS = 'one ballot a file for the public: (\'mayor\', 2) follows'     # by trying what files could be
-FILES = 'return listed([(\'DEF\', *said)])'
+FILES = 'return listed([(\'Definition\', *said)])'
 WAYS = [
     Way('withholds_what_is_below_five', 'page_masking.py', 'min(sides) < LEAST', 'min(sides) < LEAST // 2'),
     Way('withholds_small_numbers_alone', 'page_masking.py', 'range(len(rows) if small else 0)', 'range(0)'),
@@ -17,6 +17,21 @@ WAYS = [
         '    for place in range(len(rows) if small else 0):\n        if 0 in hidden and',
         '    for place in sorted(range(len(rows) if small else 0), key=lambda it: rows[it]):\n        if',
         'tables'),
+    Way('withholds_selections_by_their_places', 'page_masking.py', 'it not in small, sums[it]))', 'it not in small, it))', 'order'),
+    Way('hides_selections_by_their_places', 'page_masking.py', 'it not in small, sums[it]))', 'it not in small, it))', 'tables'),
+    Way('withholds_one_selection_too_few', 'page_masking.py', 'if count >= least and', 'if count >= least - 1 and', 'tables'),
+    Way('withholds_write_ins_by_their_votes', 'page_masking.py', '(it not in write_ins, it not in small', '(it not in small', 'order'),
+    Way('hides_what_the_next_one_shows', 'page_masking.py', ' and totals[0] < most:', ':', 'tables'),
+    Way('hides_up_to_the_next_one', 'page_masking.py', '(following[0] - 1) * is_known', 'following[0] * is_known', 'order'),
+    Way('hides_few_without_a_vote_beside_few_votes', 'page_masking.py', ' * is_known if kind', ' if kind', 'order'),
+    Way('hides_votes_in_less_than_ten', 'page_masking.py', 'min(totals) >= LEAST and', 'min(totals) >= 0 and', 'tables'),
+    Way('never_turns_sides', 'page_masking.py', '[sides[::-1] for sides in sums] if', '[*sums] if', 'order'),
+    Way('shows_units_of_one_alone', 'page_masking.py', '{*others[:is_few]}', '{*others[:0]}', 'ranges'),
+    Way('knows_no_write_in', 'counting.py', "if one.get('IsWriteIn') is True}", 'if False}', 'write-ins'),
+    Way('says_who_leads', 'page_contests.py', 'if 0 < len(contest.selections) == len(contest.mask.selections) and', 'if contest.mask.selections and', 'write-ins'),
+    Way('says_nothing_of_the_leader', 'page_contests.py', "withheld.')\n        yield element('p', LEADER)", "withheld.')",
+        'what shows its leader is not said'),
+    Way('shows_that_a_contest_has_ten_ballots', 'page_masking.py', 'or is_loose and hidden == every or', 'or', 'tables'),
     Way('shows_all_sums', 'page_masking.py', 'if held and not is_known(contests, tried):', 'if held:',
         'ranges'),
     Way('shows_units_of_few_ballots', 'page_masking.py', 'if min(row) < LEAST])\n        if hidden',
@@ -99,6 +114,8 @@ WAYS = [
         'chosen.get(\'Rank\', position.get(\'Rank\'))', 'ranks'),
     Way('takes_a_machine_for_a_person', 'page_records.py', 'return any(it.get(\'AdjudicatorName\')',
         'return snapshot[\'Type\'] == \'modified\' or any(it.get(\'AdjudicatorName\')', 'machines'),
+    Way('lets_a_space_end_an_escape', 'page_style.py', 'it.isascii() and it.isalnum() else',
+        'it.isascii() and (it.isalnum() or it == " ") else', 'odd names'),
     Way('names_no_election_on_paper', 'page_style.py', 'MARGINS % quoted(name)', 'MARGINS % \'\''),
     Way('lets_a_name_end_the_style', 'page_style.py', '    return \'\'.join(it if it.isascii()',
         '    return text or \'\'.join(it if it.isascii()', 'odd names'),

@@ -1,9 +1,10 @@
 #!/usr/bin/env python3
 """run.py --cvr PATH [--tenth WORD]
 
-Tests companion/cvr-audit with the given program: the rows of rows.json and hostile.json, what a
-terminal shows, random sets of files (sets.py), what a journal holds (journal.py), and what a run
-leaves beside what it prints (outputs.py). Then the slips of wrong_ways.py: each is made in a copy, and
+Tests companion/cvr-audit with the given program: the rows of rows.json and hostile.json, the cases of
+contests.json, what a terminal shows, names that would forge lines there (signs.py), random sets of
+files (sets.py), what a journal holds (journal.py), and what a run leaves beside what it prints
+(outputs.py). Then the slips of wrong_ways.py: each is made in a copy, and
 the row that it names, the terminal, the sets or a part of journal.py have to find it. With --tenth a
 tenth of the sets and of the slips are tried. The last line is `audit: N right, M wrong`; the status is
 0 only where M is 0 and N is not."""
@@ -19,10 +20,12 @@ HERE = os.path.dirname(os.path.abspath(__file__))
 TOP = os.path.dirname(os.path.dirname(HERE))
 sys.path[:0] = [HERE, os.path.dirname(HERE), os.path.join(TOP, 'tests', 'rows')]
 import companion   # noqa: E402
+import contests    # noqa: E402
 import journal     # noqa: E402
 import outputs     # noqa: E402
 import rows        # noqa: E402
 import sets        # noqa: E402
+import signs       # noqa: E402
 import tenth       # noqa: E402
 import terminal    # noqa: E402
 import wrong_ways  # noqa: E402 (these stand beside this file and in tests/)
@@ -79,6 +82,8 @@ def way_differences(cvr, held, advice, way):
             found = terminal_differences(copy, cvr)
         elif way.row == wrong_ways.SETS:
             found = set_differences(copy, cvr)
+        elif way.row == wrong_ways.SIGNS:
+            found = signs.differences(copy, cvr)
         elif way.row.startswith(wrong_ways.JOURNAL):
             found = journal.differences(copy, cvr, way.row[len(wrong_ways.JOURNAL):])
         else:
@@ -94,8 +99,10 @@ def jobs(words):
     package, held = companion.package_in(copy), {row['name']: row for row in rows.held()}
     advice = package.advice.ADVICE
     yield from ((rows.differences, copy, cvr, row, advice) for row in held.values())
+    yield from ((contests.differences, copy, cvr, case) for case in contests.held())
     yield terminal_differences, copy, cvr
     yield number_differences, package
+    yield signs.differences, copy, cvr
     yield from ((outputs.differences, copy, cvr, see) for see in outputs.SEEN)
     yield from ((journal.differences, copy, cvr, name) for name in journal.PARTS)
     for seed in tenth.chosen(words.tenth, range(1, 1 + SETS)):

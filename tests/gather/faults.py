@@ -27,7 +27,7 @@ WITHIN = 'it is a ZIP in a folder or in another ZIP, and may have records; unpac
 ONE_HEAD = 'two heads are one only without the spaces at their ends'
 NO_TEXT = 'this is not text in UTF-8; export it in that encoding'
 CUT = 'it is cut off, or has a comma that is not in quotes'
-NO_CHOICE = 'the choice %s of %s may say that there is no vote, or too many, or something else that is not known; have it exported without that choice'
+NO_CHOICE = 'the choice %s of %s may say that there is no vote, or too many, or something else that is not known; have it exported without that choice or, where it is one, go on with --means %s'
 SEVERAL = "; where these are several contests of one name, name the columns of each, as in --contests 'County Council=%s'"
 PARTIES = ("clearballot.csv: line 1: column %d: which part of `%s` is the choice, and which the party, can't be told, since %s; "
            'say what stands in all heads: --heads choice:party, party:choice or choice')
@@ -141,13 +141,13 @@ def dominion():
            'dominion.csv: line 4: the choice Iris Vale stands twice in County Council' + SEVERAL % '9,10-11')
     yield ('no vote allowed', everywhere(path, b'parks (Vote For=1)', b'parks (Vote For=0)'),
            'dominion.csv: line 4: column 12: no (Vote For=N) behind Measure 1: parks (Vote For=0)')
-    yield 'a choice that is none', replaced(path, b'Omar Field', b'Overvotes'), 'dominion.csv: line 4: ' + NO_CHOICE % ('Overvotes', 'County Council')
+    yield 'a choice that is none', replaced(path, b'Omar Field', b'Overvotes'), 'dominion.csv: line 4: ' + NO_CHOICE % ('Overvotes', 'County Council', 'Overvotes=choice')
     yield ('a rank', replaced(path, b'Omar Field', b'Iris Vale(2)'),
            'dominion.csv: line 4: column 10: Iris Vale(2) has a number behind it, as choices with ranks have; ranked contests are not read in this form')
     yield ('a number of many digits', replaced(path, b'County Council (Vote For=1),County', b'County Council (Vote For=1%s),County' % (b'0' * 5000)),
            'dominion.csv: line 4: column 9: no (Vote For=N) behind County Council (Vote For=1000..')
     yield ('signs of a terminal', replaced(path, b'Style 0,1,0,0', b'Style 0,"\x1b[2J\n\xe2\x80\xaex",0,0'),
-           'dominion.csv: line 5: a mark is neither 1, 0 nor empty, but \\x1b[2J\\n\\u202ex')
+           'dominion.csv: line 5: a mark is neither 1, 0 nor empty, but \\u001b[2J\\n\\u202ex')
     yield 'the heads again', line_again(path, 3), 'dominion.csv: line 9: the head stands here again: two files in one'
     yield 'another encoding', replaced(path, b'Old Mill', b'Old M\xefll'), 'dominion.csv: line 5: ' + NO_TEXT
     yield 'a quote that is not closed', replaced(path, b'1,1,1,1,"=', b'"1,1,1,1,"='), 'dominion.csv: line 5: it is no row of CSV: ..'
@@ -173,7 +173,7 @@ def clearballot():
     yield 'no party', replaced(path, b':Yes:Non-Partisan', b':Yes'), PARTIES % (14, 'Yes', 'it has no colon')
     yield 'a party with a space', replaced(path, b':Yes:Non-Partisan', b':Yes :Non-Partisan'), PARTIES % (14, 'Yes :Non-Partisan', 'a space stands beside the colon')
     yield 'a write-in for a party', replaced(path, b':Yes:Non-Partisan', b':Yes:Write-in'), PARTIES % (14, 'Yes:Write-in', 'a party is never `Write-in`')
-    yield 'a choice that is none', replaced(path, b':Yes:Non-Partisan', b':No selection:Non-Partisan'), 'clearballot.csv: line 1: ' + NO_CHOICE % ('No selection', 'Measure 1: parks')
+    yield 'a choice that is none', replaced(path, b':Yes:Non-Partisan', b':No selection:Non-Partisan'), 'clearballot.csv: line 1: ' + NO_CHOICE % ('No selection', 'Measure 1: parks', "'No selection=choice'")
     yield 'no choice', replaced(path, b':Yes:Non-Partisan', b'::Non-Partisan'), PARTIES % (14, ':Non-Partisan', 'a choice is never ``')
     yield ('two numbers of votes in a head', replaced(path, b'Choice_4_1:Measure 1: parks:', b'Choice_4_1:Measure 1:Vote For 2:'),
            'clearballot.csv: line 1: column 14 has no contest, `Vote For N` once, and choice: Choice_4_1:Measure 1:Vote For 2:Vote For 1:Yes:Non-Partisan')
@@ -216,7 +216,7 @@ def ess():
     yield 'no id', replaced(path, b'104002', b''), 'ess.csv: line 3: the Cast Vote Record or the Precinct is empty'
     yield 'a line of sums', lambda: write(path, read(path) + b'Total,,,4,4\r\n'), 'ess.csv: line 6: the Cast Vote Record or the Precinct is empty'
     yield ('no choice: a sign that is not seen', replaced(path, b'Style 0,Iris Vale', b'Style 0,Undervote\xe2\x80\x8b'),
-           'ess.csv: line 2: Undervote\\u200b in the column County Council is no choice, but nearly a word of this form, or one whose meaning is not known; ask whoever exported it')
+           "ess.csv: line 2: Undervote\\u200b in the column County Council is no choice, but nearly a word of this form, or one whose meaning is not known; say what it means, as in --means 'Undervote\\u200b=absent'")
     yield ('overvote beside a choice', lambda: write(path, read(path).replace(b'Measure 1: parks', b'County Council').replace(b'Style 0,Iris Vale,Yes', b'Style 0,Iris Vale,overvote')),
            'ess.csv: line 2: overvote stands beside a choice in County Council')
     yield ('a choice twice', lambda: write(path, read(path).replace(b'Measure 1: parks', b'County Council').replace(b'Style 0,Iris Vale,Yes', b'Style 0,Iris Vale,Iris Vale')),
@@ -242,7 +242,7 @@ def hart():
     yield 'another encoding', replaced(HART, b'encoding="utf-8"', b'encoding="martian"'), HART + ': it is no XML, or cut off: ..'
     yield ('an id twice', lambda: shutil.copy(HART, 'hart/zz.xml'),
            'hart/zz.xml: the record "hart" "4057b1ff-4e4d-53fa-9cfb-9d6724c76d81" stands here and in ' + HART + ': ')
-    yield 'a choice that is none', everywhere(HART, b'Omar Field', b'Under Vote'), HART + ': ' + NO_CHOICE % ('Under Vote', 'County Council')
+    yield 'a choice that is none', everywhere(HART, b'Omar Field', b'Under Vote'), HART + ': ' + NO_CHOICE % ('Under Vote', 'County Council', "'Under Vote=choice'")
     yield 'another value', lambda: write(HART, read(HART).replace(b'<Value>1<', b'<Value>2<', 1)), HART + ': the Value of an Option is neither 1 nor 0, but 2'
     yield ('a written name elsewhere', replaced(LAST, b'<Id>c0-1</Id>', b'<Id>c0-1</Id><WriteInData/>'),
            LAST + ': the Option c0-1 of c0 has WriteInData, and none in a file before')
@@ -333,7 +333,7 @@ def dominion_json():
     yield 'no list of contests', lambda: os.remove(more + 'ContestManifest.json'), 'ContestManifest.json: it has to be there once, beside CvrExport.json'
     yield ('a choice of no contest', lambda: write(more + 'CandidateManifest.json', read(more + 'CandidateManifest.json').replace(b'"ContestId": 0', b'"ContestId": 9', 1)),
            'CandidateManifest.json: the candidate 0 is of no contest')
-    yield ('a choice that is none', replaced(more + 'CandidateManifest.json', b'Iris Vale', b'BLANK VOTE'), 'CandidateManifest.json: ' + NO_CHOICE % ('BLANK VOTE', 'County Council'))
+    yield ('a choice that is none', replaced(more + 'CandidateManifest.json', b'Iris Vale', b'BLANK VOTE'), 'CandidateManifest.json: ' + NO_CHOICE % ('BLANK VOTE', 'County Council', "'BLANK VOTE=choice'"))
     yield ('a choice of another contest', lambda: write(path, read(path).replace(b'"CandidateId": 0,', b'"CandidateId": 100,', 1)),
            path + ': /Sessions/0/Original/Cards/0/Contests/0/Marks/0: the CandidateId 100 is none of the contest 0')
     yield 'a contest twice', replaced(more + 'ContestManifest.json', b'"Id": 1,', b'"Id": 0,'), more + 'ContestManifest.json: /List/1: it has no Id of its own'

@@ -6,6 +6,7 @@ of the only note, or empty where there is none."""
 import os
 from collections import namedtuple
 
+import faults
 import make
 
 Misread = namedtuple('Misread', 'name kind write log words votes ways note', defaults=(None,))
@@ -200,7 +201,21 @@ def parted():
     yield ends('no party', ['Ann', 'Bob', 'Cy'], 11, 'it has no colon', 'choice', ['Ann', 'Bob', 'Cy'], [])
 
 
+# ---- a choice that has the name of a word for no vote: 11 ballots with Ann 4, Blank 2, and 5 undervotes
+
+def listed():
+    board, held = [('Board', 1, ['Ann', 'Blank', 'Cy'])], [(4, {0}), (2, {1}), (5, set())]
+    said = faults.NO_CHOICE % ('Blank', 'Board', 'Blank=choice')
+    for kind, write, place in (*((it, table(it, board, held), place) for it, place in (
+            ('dominion', 'dominion.csv: line 4'), ('clearballot', 'clearballot.csv: line 1'), ('dominion-json', 'CandidateManifest.json'))),
+            ('hart', sheets([(4, 0, 0, ['Ann']), (2, 0, 0, ['Blank']), (5, 0, 1, [])]), 'hart/4.xml')):
+        yield Misread('a choice named Blank', kind, write, '%s: %s' % (place, said), ['--means', 'Blank=choice'],
+                      {'Board': {'ballots': 11, 'overvotes': 0, 'undervotes': 5, 'Ann': 4, 'Blank': 2}}, [],
+                      'by --means the text Blank says: choice; choices with it: %d' % (kind != 'hart' or 1))
+
+
 def all_misread():
+    yield from listed()
     yield from melted('dominion', 4, 9)
     yield from melted('clearballot', 1, 11)
     yield from overvoted()

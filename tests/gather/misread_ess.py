@@ -1,6 +1,7 @@
 """misread_ess.py: tables of ES&S, and choices for written names in all forms, that a converter could read wrongly without a
 word, as the cases of misread.py. A case of `twice` has two exports, and a name of a device for each."""
 import os
+import shlex
 from collections import namedtuple
 
 import make
@@ -83,9 +84,9 @@ def cell(name, text, found, words=(), ways=()):
 def cells():
     named = ['--contests', 'Council=4']
     for name, text in ('a line break', 'Dee\nBob'), ('a semicolon', 'Dee; Bob'), ('a bar', 'Dee|Bob'):
-        yield cell(name, text, 'several texts in one cell', named, ways=[('takes_several_choices_for_one', 'gather_ess_words.py', 'if SEVERAL.search(cell):', 'if False:')])
-    yield cell('a number', '7', 'a number, or signs', named, ways=[('takes_numbers_for_choices', 'gather_ess_words.py', 'if not any(map(str.isalpha, cell)):', 'if False:')])
-    yield cell('a path', 'b.PNG', 'the path of a file', named, ways=[('takes_paths_for_choices', 'gather_ess_words.py', "return 'the path of a file' if PATH.fullmatch(cell) else None", 'return None')])
+        yield cell(name, text, 'several texts in one cell', named, ways=[('takes_several_choices_for_one', 'gather_words.py', 'if SEVERAL.search(cell):', 'if False:')])
+    yield cell('a number', '7', 'a number, or signs', named, ways=[('takes_numbers_for_choices', 'gather_words.py', 'if not any(map(str.isalpha, cell)):', 'if False:')])
+    yield cell('a path', 'b.PNG', 'the path of a file', named, ways=[('takes_paths_for_choices', 'gather_words.py', "return 'the path of a file' if PATH.fullmatch(cell) else None", 'return None')])
     for text in 'Ann, Bob', 'Ann/Bob', 'Bob & Ann', 'Ann and Bob', 'Ann  Bob', 'Bob-Ann':
         log = ('ess.csv: line 1: the contest Council has the choice %s in 6 cells, and its parts are choices, too, so it may be several in one cell; '
                'where it is one, go on with --contests Council=4' % text)
@@ -96,15 +97,20 @@ def cells():
     for text in 'No Selection', 'Blank', 'skipped', '(blank)', 'NOT VOTED':
         yield Misread('no vote: ' + text, 'ess', rows(['Council'], [(3, ['Ann']), (2, ['Write-in']), (8, [text])]), None, [],
                       {'Council': {'ballots': 13, 'overvotes': 0, 'undervotes': 8, 'write-ins': 2, 'Ann': 3, 'write-in': 2}},
-                      [('knows_undervotes_alone', 'gather_ess_words.py', 'UNDERVOTE if bare(cell) in NOTHING else cell', 'cell')],
+                      [('knows_undervotes_alone', 'gather_words.py', 'UNDERVOTE if bare(cell) in NOTHING else cell', 'cell')],
                       'the word %s is read as undervote; cells with it: 8' % text.lower())
     yield Misread('two words for no vote', 'ess', rows(['Council'], [(3, ['Ann']), (5, ['Blank']), (8, ['undervote'])]),
-                  'ess.csv: line 5: blank stands here for no vote, in 5 cells, and undervote elsewhere, in 8; whether both say that is not known: have it exported anew, with one of them',
-                  None, {}, [('takes_two_words_for_no_vote', ALL, 'if len(found) > 1:', 'if False:')])
-    for text in 'None', 'N/A', 'not on ballot', 'Over', 'under vote', 'Overvoted', 'X':
-        yield Misread('an unknown word: ' + text, 'ess', rows(['Council'], [(3, ['Ann']), (5, [text]), (8, ['undervote'])]),
-                      'ess.csv: line 5: %s in the column Council is no choice, but nearly a word of this form, or one whose meaning is not known; ask whoever exported it' % text, None, {},
-                      [('takes_unknown_words', ALL, 'found = why_no_word(cell)', 'found = None')])
+                  'ess.csv: line 5: blank stands here for no vote, in 5 cells, and undervote elsewhere, in 8; whether both say that is not known; where they do, go on with --means Blank=undervote',
+                  ['--means', 'Blank=undervote'], {'Council': {'ballots': 16, 'overvotes': 0, 'undervotes': 13, 'Ann': 3}},
+                  [('takes_two_words_for_no_vote', ALL, 'if len(found) > 1:', 'if False:')], 'by --means the text Blank says: undervote; cells with it: 5')
+    for text, meaning, votes in ('None', 'undervote', (16, 0, 13)), ('N/A', 'absent', (11, 0, 8)), ('not on ballot', 'absent', (11, 0, 8)), ('Over', 'overvote', (16, 5, 8)), \
+            ('under vote', 'undervote', (16, 0, 13)), ('Overvoted', 'overvote', (16, 5, 8)), ('Under\u200bvote', 'undervote', (16, 0, 13)), ('X', 'choice', (16, 0, 8)):
+        shown = text.replace('\u200b', '\\u200b')
+        way, its = '%s=%s' % (shown, meaning), dict(zip(('ballots', 'overvotes', 'undervotes'), votes), Ann=3)
+        yield Misread('an unknown word: ' + shown, 'ess', rows(['Council'], [(3, ['Ann']), (5, [text]), (8, ['undervote'])]),
+                      'ess.csv: line 5: %s in the column Council is no choice, but nearly a word of this form, or one whose meaning is not known; say what it means, as in --means %s' % (
+                          shown, shlex.quote(shown + '=absent')), ['--means', way], {'Council': {**its, text: 5} if meaning == 'choice' else its},
+                      [('takes_unknown_words', 'gather_words.py', 'if why and not self.of(cell):', 'if False:')], 'by --means the text %s says: %s; cells with it: 5' % (shown, meaning))
 
 
 # ---- two contests of one name: 23 ballots with Ann 4 + 3, Bob 6 + 7, Cy 4 + 6, Dee 3 + 7; 2 and 1 mark one of the two
@@ -214,6 +220,10 @@ REFUSED = [
     (['dominion.csv', '--left-out', 'x'], '--left-out is of the kinds ess alone, and this export is of the kind dominion', 2),
     (['ess.csv', '--left-out', 'x'], 'ess.csv: line 1: --left-out: there is no column x that may be left out', 1),
     (['ess.csv', '--left-out', 'Precinct'], 'ess.csv: line 1: --left-out: there is no column Precinct that may be left out', 1),
+    (['ess.csv', '--means', 'x=absent'], '--means: no cell of the export is x', 2),
+    (['dominion.csv', '--means', 'x=choice'], '--means: no choice of the export is x', 2),
+    *((['ess.csv', '--means', it], '--means: %s has to be a text, neither undervote nor overvote, and what it says (undervote, overvote, absent, choice), such as N/A=absent' % it, 2)
+      for it in ('x', '=absent', 'x=none', 'Overvote=absent')),
     (['ess.csv', '--contests', 'x=5'], 'ess.csv: line 1: --contests names other columns of x than it has here: none', 1),
     (['ess.csv', '--contests', 'County Council=5'], 'ess.csv: line 1: --contests names other columns of County Council than it has here: 4', 1),
     (['ess.csv', '--contests', 'County Council=4', '--left-out', 'County Council'], 'ess.csv: line 1: --contests names other columns of County Council than it has here: none', 1),

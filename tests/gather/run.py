@@ -36,7 +36,7 @@ import misread_ess # noqa: E402
 import planted     # noqa: E402
 import recount     # noqa: E402
 import tenth       # noqa: E402
-from cvr_audit import gather_ess_words  # noqa: E402
+from cvr_audit import gather_source, gather_words, program  # noqa: E402
 import wrong_ways  # noqa: E402 (they stand here, in tests/ and in examples/recipes)
 
 SIDE_BY_SIDE = 4
@@ -111,9 +111,9 @@ def gathered(kind, export, cvr, out, copy=None, words=()):
     """Gathers an export, and compares it with the recount; answers how many votes were compared."""
     text, log, status = run(['gather', export, '-o', out, *words], cvr, copy)
     see((status, log) == (0, ''), 'status %d, %r' % (status, log))
-    cuts, left, votes, heads = ([words[place + 1] for place, it in enumerate(words) if it == name]
-                                for name in ('--contests', '--left-out', '--votes', '--heads'))
-    found, compared = recount.differences(kind, export, cvr, out, cuts, *heads, left=left, allowed=votes)
+    cuts, left, votes, means, heads = ([words[place + 1] for place, it in enumerate(words) if it == name]
+                                       for name in ('--contests', '--left-out', '--votes', '--means', '--heads'))
+    found, compared = recount.differences(kind, export, cvr, out, cuts, *heads, left=left, allowed=votes, means=means)
     see(not found, '\n    '.join(found[:5]))
     return text, compared
 
@@ -207,9 +207,9 @@ def see_lists(_):
                                     ('| Write-in Type,', ', or with', 'DOUBTS', recount.OF_DOUBT)):
         place = text.index(start)
         listed = {recount.bare(it) for it in text[place + start.index(' '):text.index(end, place)].split(',')}
-        see(listed == getattr(gather_ess_words, held), '%r' % (listed ^ getattr(gather_ess_words, held)))
+        see(listed == getattr(gather_words, held), '%r' % (listed ^ getattr(gather_words, held)))
         see(all(known.fullmatch(it) for it in listed), 'the recount knows others than ' + held)
-    see(all(recount.OF_ORIGIN.fullmatch(it) for it in gather_ess_words.ORIGINS), 'the recount knows other heads')
+    see(all(recount.OF_ORIGIN.fullmatch(it) for it in gather_words.ORIGINS), 'the recount knows other heads')
 
 
 def devices(names):
@@ -470,6 +470,23 @@ def see_mac(cvr):
         see((log, status, text.count('left out')) == ('', 0, 1) and '/rejected-' in text, repr(text + log))
 
 
+def see_replaced(_):
+    """A file in whose place a link or another file stands, once it was looked at, isn't read."""
+    with tempfile.TemporaryDirectory() as folder:
+        path = os.path.join(folder, 'a')
+        for put in lambda: os.symlink(os.path.join(folder, 'secret'), path), lambda: os.rename(os.path.join(folder, 'secret'), path):
+            for name in 'a', 'secret':
+                faults.write(os.path.join(folder, name), name.encode())
+            source, _ = gather_source.sources_in([folder])
+            os.remove(path)
+            put()
+            try:
+                see(False, 'it is read: %r' % source.data())
+            except program.Ended as end:
+                see(end.log == ('cvr-audit: %s: it was changed while it was read\n' % path).encode(), repr(end.log))
+            os.remove(path)
+
+
 def see_written(cvr):
     """Two written names of a contest are two votes. The root says where its schema is."""
     with tempfile.TemporaryDirectory() as folder:
@@ -573,7 +590,7 @@ def trials(words):
                 ('names that meet in', see_names, BATCHES), ('two parts of', see_halves, ('vxsuite', 'dominion', 'ess', 'clearballot'))]
     every = [('%s %s' % (name, kind), partial(see_it, kind, cvr)) for name, see_it, held in of_kinds for kind in held]
     every += [(see_it.__name__, partial(see_it, cvr)) for see_it in (see_there, see_two_kinds, see_long, see_changed, see_bytes, see_variants,
-                                                                   see_formulas, see_long_heads, see_mac, see_written, see_lists)]
+                                                                   see_formulas, see_long_heads, see_mac, see_replaced, see_written, see_lists)]
     every += [(it.name, partial(see_fault, it, cvr)) for it in faults.all_faults()]
     every += [('words ' + ' '.join(it[0]), partial(see_words, *it, cvr)) for it in misread_ess.REFUSED]
     every += [(it.name, partial(see_planted, it, cvr)) for it in planted.CASES]

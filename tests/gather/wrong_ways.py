@@ -46,7 +46,7 @@ ESS = of('ess', [
     ('forgets_the_unit', 'gather_ess.py', "{'BallotStyleUnitId': self.frame.unit(held[UNIT]), 'BallotStyleId'", "{'BallotStyleId'"),
     ('states_one_overvote', 'gather_ess_columns.py', 'words.count(OVERVOTE)', 'int(OVERVOTE in words)'),
     ('states_one_undervote', 'gather_ess_columns.py', 'words.count(UNDERVOTE)', 'int(UNDERVOTE in words)'),
-    ('takes_undervotes_for_overvotes', 'gather_ess_words.py', "UNDERVOTE, OVERVOTE = 'undervote', 'overvote'", "UNDERVOTE, OVERVOTE = 'overvote', 'undervote'"),
+    ('takes_undervotes_for_overvotes', 'gather_words.py', "UNDERVOTE, OVERVOTE = 'undervote', 'overvote'", "UNDERVOTE, OVERVOTE = 'overvote', 'undervote'"),
     ('states_no_write_ins', 'gather_frame.py', 'WriteIns=votes_of(self, chosen)', 'WriteIns=0'),
     ('counts_no_votes', 'gather_ess_columns.py', '[position()] * number', '[position(is_vote=False)] * number'),
     ('takes_the_first_vote_alone', 'gather_ess_columns.py', 'for it, number in marks.items()], numbers)', 'for it, number in [*marks.items()][:1]], numbers)'),
@@ -56,7 +56,7 @@ ESS = of('ess', [
     ('leaves_out_overvoted_contests', 'gather_ess.py', '[it for it in texts if it]', "[it for it in texts if it and 'overvoted' not in it]"),
     ('leaves_out_blank_contests', 'gather_ess_columns.py', "if set(cells) == {''}:", "if set(cells) <= {'', UNDERVOTE}:"),
     ('cuts_the_number', 'gather_ess.py', '(DEVICE, held[NUMBER]), header', '(DEVICE, held[NUMBER][-1:]), header'),
-    ('knows_words_in_small_letters_alone', 'gather_ess_words.py', 'small = cell.lower()', 'small = cell'),
+    ('knows_words_in_small_letters_alone', 'gather_words.py', 'small = cell.lower()', 'small = cell'),
     ('knows_no_write_ins', 'gather_writein.py', 'return WORD.search(name) is not None', 'return False'),
 ])
 HART = of('hart', [

@@ -4,11 +4,11 @@
 const [file, ...names] = globalThis.arguments
 const ROOM = 1 << 20, LONG_NUMBER = '18446744073709551615'
 const bytesAt = path => new Uint8Array(read(path, 'binary'))
-const encoded = text => Uint8Array.from(unescape(encodeURIComponent(text)), it => it.charCodeAt(0))
+const utf8 = text => Uint8Array.from(unescape(encodeURIComponent(text)), it => it.charCodeAt(0))
 const decoded = bytes => decodeURIComponent(escape(String.fromCharCode(...bytes)))
 
 const its = new Module(new WebAssembly.Module(bytesAt(file))), words = ['tally', '--', ...names]
-const pieces = [...words.map(encoded), ...names.flatMap(it => [encoded(it), bytesAt(it)])], ends = []
+const pieces = [...words.map(utf8), ...names.flatMap(it => [utf8(it), bytesAt(it)])], ends = []
 for (const it of pieces) ends.push(it.length + (ends.at(-1) ?? 0))
 
 // A room in the module's memory, with these bytes.

@@ -20,7 +20,7 @@ function tell(is_right, what) {
 async function answered(module) {
   try {
     const held = new Files(module, files, [words])
-    for (const at of files.keys()) await held.read(at)
+    for (const it of files) held.put(await bytesOf(it, HELD))
     const {status, text, log} = held.run(words)
     return status === 4 ? null : `${status} ${log}${new TextDecoder().decode(text)}`
   } catch (fault) {

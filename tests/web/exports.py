@@ -10,7 +10,7 @@ import sys
 import tempfile
 import zipfile
 
-from trial import CLICK, COUNTY, FILES, SECONDS, SETTLED, TEXTS, TOP, given, saved
+from trial import CLICK, COUNTY, FILES, OPTIONS, SECONDS, SETTLED, TEXTS, TOP, given, saved
 
 sys.path.append(os.path.join(TOP, 'tests/gather'))
 import faults   # noqa: E402
@@ -23,7 +23,6 @@ DAMAGED = 'the ZIP is damaged here, or packed in a way that is not known'
 NOT_HERE = {'vxsuite: no metadata', 'vxsuite: a link', 'vxsuite: a folder that is a link', 'export.zip: a damaged byte', 'export.zip: a workbook'}
 SAID = re.compile(r"^What was given can't be read: |\. Nothing (?:of it is added|is shown)\.$")
 LEFT = "[...document.querySelectorAll('#answer details')].filter(it => /^Not in them/.test(it.textContent)).flatMap(it => [...it.querySelectorAll('code')].map(one => one.textContent))"
-OPTIONS = "[...document.getElementById('definition').options].map(it => it.value)"
 
 
 @contextlib.contextmanager
@@ -122,7 +121,7 @@ def see_test(browser, trial, room):
     trial.see('a test is tallied', tally(browser), 'Done.')
     line = 'TEST: 2 of 2 reports are of a test'
     trial.see('a test: the page', browser.value("[...document.querySelectorAll('#answer > p')].map(it => it.textContent).slice(0, 2)"), [line, 'TEST'])
-    trial.see('a test: the CSV', saved(browser, 'Save the totals as CSV', 'tally.csv').split(b'\r\n')[0], line.encode())
+    trial.see('a test: the CSV', saved(browser, 'Save the totals as CSV', 'tally-test.csv').split(b'\r\n')[0], b'\xef\xbb\xbf' + line.encode())
     native(trial, ['gather', 'export.zip', '-o', 'out'], room)
     see_files(browser, trial, os.path.join(room, 'out'))
     path = os.path.join(room, 'out/records-1.json')

@@ -4,10 +4,13 @@
 Tests the page that tools/html makes of web/ and the module, in Chromium and in Firefox, each headless and driven by its
 own protocol. The county of examples/, with a file that is refused and one that contradicts the others: each table, list
 and sentence of the page is compared with what `cvr` prints, added up here, and with SHA-256 sums of the files; what its
-buttons save, with the command's bytes; its warnings with those of cvr-audit in tests/audit/rows.json; what it makes of
-exports of VxSuite and of ZIPs, with what cvr-audit gather makes, and the faults of tests/gather. Names with markup, in
-Arabic and of 300 characters stand as texts. A run that is cancelled shows nothing, and the next one is right. A page
-whose module is changed, or that gives another tally of its example, does nothing. Chromium also shows it at the width
+buttons save, with the command's bytes; ballots, manifests and contests with what was worked out by hand (canvass.py);
+which file is the definition, and what isn't in the tally (choosing.py); its warnings with those of cvr-audit in
+tests/audit/rows.json; what it makes of exports of VxSuite and of ZIPs, with what cvr-audit gather makes, and the faults of
+tests/gather; what it says of refused files, with the table of cvr-audit why, and of conflicts and other files that aren't
+read (why.py). Names with markup, in Arabic and of 300 characters stand as texts. A run that is cancelled shows nothing,
+and the next one is right. A page whose module is changed, or that gives another tally of its example, does nothing.
+Chromium also shows it at the width
 of a phone, in the dark, in forced colours and on paper, without a mouse, with a script that isn't run, with little
 memory, and keeps what it asks the network for: nothing; a server here, which the page is made to call, hears nothing in
 either. There also slips of the page's own code (slips.py) are each found, with --tenth a tenth of them.
@@ -33,6 +36,8 @@ sys.dont_write_bytecode = True
 HERE = os.path.dirname(os.path.abspath(__file__))
 TOP = os.path.dirname(os.path.dirname(HERE))
 sys.path[:0] = [HERE, *(os.path.join(TOP, it) for it in ('tests', 'tests/audit', 'tests/rows', 'companion'))]
+import canvass      # noqa: E402
+import choosing     # noqa: E402
 import chromium     # noqa: E402
 import dist_files   # noqa: E402
 import exports      # noqa: E402
@@ -42,7 +47,8 @@ import page_sets    # noqa: E402
 import rows         # noqa: E402
 import slips        # noqa: E402
 import tenth        # noqa: E402
-from trial import CLICK, COLUMNS, COUNTY, FILES, PRESS, SETTLED, TEXTS, Found, Trial, given, saved, sum_of, tallied     # noqa: E402
+import why          # noqa: E402
+from trial import CHOOSE, CLICK, COLUMNS, COUNTY, FILES, OPTIONS, PARTLY, PRESS, REFUSED, SETTLED, TEXTS, Found, Trial, given, saved, sum_of, tallied     # noqa: E402
 from cvr_audit.advice import ADVICE         # noqa: E402
 from cvr_audit.page_warnings import KINDS   # noqa: E402 (these stand beside this file, in tests, tests/audit or companion)
 
@@ -91,33 +97,37 @@ def stated(contest, numbers):
     return ['not stated' if place in lacking else it for place, it in enumerate(texts(numbers))]
 
 
-def tables_of(text):
-    """The tables of the contests, and those by unit and by batch, that a tally asks for."""
+def tables_of(text, records):
+    """The tables of the contests, and those by unit, by batch and by device, that a tally and its records ask for."""
     rows = [parts(line) for line in text.splitlines()]
     contests, divided = [], []
     for contest, numbers in summed(rows, 0).items():
         held = [row for row in rows if row[0] == contest]
-        selections, votes = held[0][9::2], numbers[6:]
-        contests.append(['Selections', ['Selection', 'Votes'], *([NAMES[key], '\u00a0' + n] for key, n in zip(selections, texts(votes))),
-                         ['All selections', *texts([sum(votes)])]])
-        for place, what in (1, 'unit'), (2, 'batch'):
-            divided.append(['By ' + what, [what, *COLUMNS, *(SHORT[key] for key in selections)],
-                            *([NAMES.get(key, key), *stated(contest, it)] for key, it in summed(held, place).items()), ['Sum', *stated(contest, numbers)]])
+        selections, votes, name = held[0][9::2], numbers[6:], NAMES[contest].rpartition(' ')[0]
+        contests.append(['Selections: ' + name, canvass.HEADS, *([NAMES[key], *canvass.cells(it, sum(votes), numbers[0])] for key, it in zip(selections, votes)),
+                         ['All selections', *texts([sum(votes)]), '', '']])
+        for what, its in ('unit', summed(held, 1)), ('batch', summed(held, 2)), ('device', canvass.by_device(records, contest, selections)):
+            divided.append(['By %s: %s' % (what, name), [what, *COLUMNS, *(SHORT[key] for key in selections)],
+                            *([NAMES.get(key, key), *stated(contest, it)] for key, it in its.items()), ['Sum', *stated(contest, numbers)]])
     return contests + divided
 
 
-def lists_of(text):
-    """The lists of the contests: the ballots, and the other numbers."""
+def lists_of(text, records):
+    """The lists of the ballots, and of the contests: the ballots, and the other numbers."""
+    yield canvass.counts_of(records)
     for contest, numbers in summed([parts(line) for line in text.splitlines()], 0).items():
-        yield ['Ballots', *texts(numbers[:1])]
-        yield [it for name, number in zip(COLUMNS[1:], stated(contest, numbers)[1:]) for it in (name, number)]
+        its = canvass.having(records, contest)
+        yield ['Ballots', *texts(numbers[:1]), 'Adjudicated', str(len(list(filter(canvass.is_adjudicated, its))))]
+        yield [it for name, number in zip(COLUMNS[1:], stated(contest, numbers)[1:]) for it in (name, canvass.on_ballots(its, contest, name, number))]
 
 
 def inputs_of(trial):
     """The table of the files."""
     records = dict(line.rsplit(' ', 1) for line in trial.printed('check', 'definition.json', *FILES).decode().splitlines())
     states = ['definition; its records are not counted', *['accepted'] * 3,
-              'refused, E3. A member that the profile demands is absent. At /CVR/0/UniqueId. Have it written; see the class tables in docs/FORMAT.md.']
+              'refused, E3. The file does not have the form of a report: a required member is absent, at /CVR/0/UniqueId.Where: UniqueId of record 1Path: /CVR/0/UniqueId'
+              'Record: "scanner-1" nullThere stands: nothingAround it: an object with "@type", "CreatingDeviceId", "ElectionId", "BallotStyleUnitId", "BatchId", "CurrentSnapshotId", '
+              '"CVRSnapshot"Have it mended by the maker of the tool that wrote it, and exported again.']
     yield 'Definition and files'
     yield ['File', 'SHA-256', 'Bytes', 'Records', 'State']
     for name, state in zip(FILES, states):
@@ -164,9 +174,12 @@ def read(name):
         return json.load(file)
 
 
-def beside_of(trial):
-    """The tables of the conflicts side by side: first the text of volume 1, then the others, the greatest first."""
-    volume = json.loads(trial.printed('merge', 'definition.json', '2024-11-07T00:00:00Z', 'desk-1', '1', *FILES[1:]))
+def volume_of(trial):
+    return json.loads(trial.printed('merge', 'definition.json', '2024-11-07T00:00:00Z', 'desk-1', '1', *FILES[1:]))
+
+
+def beside_of(volume):
+    """The tables of what differs in the conflicts, side by side: first the text of volume 1, then the others, the greatest first."""
     first, held = {name: compact(it) for name, it in facts(volume)}, {}
     for path in FILES[:-1]:     # the last one is refused
         report = read(path)
@@ -178,7 +191,7 @@ def beside_of(trial):
             parts = [leaves(json.loads(it)) for it in order]
             places = list(dict.fromkeys(place for it in parts for place in it))
             yield (kind, *names), ['Texts side by side', ['Member', *('Text %d' % (number + 1) for number in range(len(order)))], ['Files', *(' '.join(texts[it]) for it in order)],
-                                   *([place, *(it.get(place, '') for it in parts)] for place in places)]
+                                   *([place, *(it.get(place, '') for it in parts)] for place in places if len({it.get(place) for it in parts}) > 1)]
 
 
 # ---- what is tried
@@ -215,7 +228,7 @@ def see_made(trial, folder):
     its = Parts(pages[0])
     sums = [base64.b64encode(hashlib.sha256(it.encode()).digest()).decode() for it in its.texts]
     trial.see('its policy has the sums of its style and its script', [it in its.policy for it in sums], [True, True])
-    for way in slips.WAYS:
+    for way in slips.WAYS + why.WAYS:
         with open(os.path.join(TOP, 'web', way.file), encoding='utf-8') as file:
             trial.see('a slip that fits: ' + way.name, file.read().count(way.old), 1)
     trial.see('nothing in it comes from elsewhere', its.names & {'src', 'href', 'srcset', 'action', 'onclick', 'onload'}, set())
@@ -228,24 +241,25 @@ def started(browser, trial, page):
 
 
 def see_county(browser, trial, page):
-    trial.see('the county is tallied', tallied(browser, COUNTY, FILES), 'Done.')
+    trial.see('the county is tallied', tallied(browser, COUNTY, FILES), PARTLY + '.')
     text = trial.printed('tally', *FILES)
     trial.see('the text', browser.value(TEXTS % 'text'), text.decode())
     trial.see('its sum', browser.value(TEXTS % 'sum'), hashlib.sha256(text).hexdigest())
-    beside, names = dict(beside_of(trial)), [it[:2] for it in list(conflicts_of(trial))[2:]]
+    volume = volume_of(trial)
+    beside, names = dict(beside_of(volume)), [it[:2] for it in list(conflicts_of(trial))[2:]]
     besides = [beside[key] for key in sorted(beside, key=lambda key: names.index([key[0], ' '.join(key[1:])]))]
-    trial.see('the tables', browser.value(TABLES), [list(conflicts_of(trial)), *besides, *tables_of(text.decode()), list(inputs_of(trial))])
+    trial.see('the tables', browser.value(TABLES), [list(conflicts_of(trial)), *besides, *canvass.tables_of(volume['CVR'], NAMES), *tables_of(text.decode(), volume['CVR']), list(inputs_of(trial))])
     head, *lists = browser.value(LISTS)
-    trial.see('the lists', lists, list(lists_of(text.decode())))
+    trial.see('the lists', lists, list(lists_of(text.decode(), volume['CVR'])))
     version = trial.printed('--version').decode().splitlines()[0]
-    trial.see('the head', head[2:], ['By', version + ', in a browser', 'Module', 'SHA-256 ' + sum_of(trial.module), 'Page', 'SHA-256 ' + sum_of(page),
+    trial.see('the head', head[2:], ['By', version + ', in a browser', 'Proved program', 'SHA-256 of its module ' + sum_of(trial.module), 'Page', 'SHA-256 ' + sum_of(page),
                                      'Command', 'cvr tally -- ' + ' '.join(FILES)])
     trial.see('the title', browser.value('document.title'), 'UNOFFICIAL: Alder County General Election')
     trial.see('the election', browser.value("document.querySelector('#answer h1').textContent"), 'Alder County General Election')
     widths = [[it.replace('%', '') for it in one] for one in browser.value(
         "[...document.querySelectorAll('.contest')].map(it => [...it.querySelectorAll('.bar')].map(one => one.style.width))")]
     votes = [it[6:] for it in summed([parts(line) for line in text.decode().splitlines()], 0).values()]
-    trial.see('the bars', [[round(float(it)) for it in one] for one in widths], [[round(100 * it // max(one)) for it in one] for one in votes])
+    trial.see('the bars', [[round(float(it)) for it in one] for one in widths], [[round(100 * it // max(one)) for it in one if it] for one in votes])
 
 
 # The warnings that the page gives, of those of cvr-audit; conflicts have a section of their own.
@@ -280,11 +294,8 @@ def see_warnings(browser, trial):
     for row in held:
         with tempfile.TemporaryDirectory() as folder:
             rows.lay(folder, row.get('files', {}))
-            names = [it.replace('./', 'copy-of-') for it in row['words'][1:]]
-            for name, old in zip(names, row['words'][1:]):
-                if name != old:     # the page tells files by path
-                    os.link(os.path.join(folder, old), os.path.join(folder, name))
-            trial.see(row['name'], tallied(browser, folder, names), 'Done.')
+            names = list(dict.fromkeys(os.path.normpath(it) for it in row['words'][1:]))        # a definition with records is one of the files by itself
+            trial.see(row['name'], tallied(browser, folder, names, names[0]), 'Done.')
             trial.see('the warnings of ' + row['name'], browser.value(WARNINGS), warnings_of(row['out']))
             trial.see('the conflicts of ' + row['name'], sorted(browser.value(BESIDE)), sorted(conflicts_in(row['out'])))
 
@@ -298,19 +309,19 @@ def see_folded(browser, trial):
     with tempfile.TemporaryDirectory() as folder:
         rows.lay(folder, row['files'])
         trial.see(row['name'], tallied(browser, folder, row['words'][1:]), 'Done.')
-        trial.see('what is folded', browser.value(FOLDED), ['12 places: one.json 7, two.json 5'])
+        trial.see('what is folded', browser.value(FOLDED), ['12 cases: one.json 7, two.json 5'])
     row = next(it for it in rows.held() if it['name'].startswith('twelve lines of one kind, of eleven files'))
     with tempfile.TemporaryDirectory() as folder:
         rows.lay(folder, {**row['files'], **{it: row['files']['f01.json'] for it in ('g01.json', 'g02.json')}})
         names = [*row['words'][1:], 'g01.json', 'g02.json']
         trial.see(row['name'], tallied(browser, folder, names), 'Done.')
-        trial.see('what is folded, of many files', browser.value(FOLDED), ['12 places: 13 files'])
+        trial.see('what is folded, of many files', browser.value(FOLDED), ['12 cases: 13 files'])
         trial.see('a long command is folded', browser.value("document.querySelector('#answer header summary').textContent"), 'cvr tally of 13 files, as Inputs has them')
 
 
-RANKS = [['Selections by rank', ['Selection', 'Rank 1', 'Rank 2', 'Rank 3'], ['Ada ada', '10', '10', '0'], ['Bob bob', '10', '0', '10'], ['Cyd cyd', '10', '10', '0']],
-         ['Selections by rank', ['Selection', 'No rank'], ['Low low', '0'], ['High high', '30']],
-         ['Selections', ['Selection', 'Votes'], ['Yes yes', '\u00a030'], ['No no', '\u00a00'], ['All selections', '30']]]
+RANKS = [['Selections by rank: Mayor', ['Selection', 'Rank 1', 'Rank 2', 'Rank 3'], ['Ada ada', '10', '10', '0'], ['Bob bob', '10', '0', '10'], ['Cyd cyd', '10', '10', '0']],
+         ['Selections by rank: Score', ['Selection', 'No rank'], ['Low low', '0'], ['High high', '30']],
+         ['Selections: Tax', canvass.HEADS, ['Yes yes', '\u00a030', '100.0', '100.0'], ['No no', '0', '0.0', '0.0'], ['All selections', '30', '', '']]]
 
 
 def see_ranks(browser, trial):
@@ -322,8 +333,8 @@ def see_ranks(browser, trial):
         trial.see('ranks', tallied(browser, folder, ['def.json', 'ranked.json']), 'Done.')
         tables = browser.value(TABLES)
         trial.see('ranks: the tables', [it for it in tables if it[0].startswith('Selections')], RANKS)
-        trial.see('ranks: by unit', [it[1][1:] for it in tables if it[0] == 'By unit'], [COLUMNS, COLUMNS, [*COLUMNS, 'Yes', 'No']])
-        trial.see('ranks: no sum', [[len(row) for row in it[1:]] for it in tables if it[0] == 'By unit'], [[7, 7, 7], [7, 7, 7], [9, 9, 9]])
+        trial.see('ranks: by unit', [it[1][1:] for it in tables if it[0].startswith('By unit')], [COLUMNS, COLUMNS, [*COLUMNS, 'Yes', 'No']])
+        trial.see('ranks: no sum', [[len(row) for row in it[1:]] for it in tables if it[0].startswith('By unit')], [[7, 7, 7], [7, 7, 7], [9, 9, 9]])
         trial.see('ranks: a sentence', browser.value("[...document.querySelectorAll('.contest')].map(it => it.textContent.includes('no rounds are computed'))"), [True, True, False])
 
 
@@ -342,30 +353,36 @@ def see_no_device(browser, trial, folder):
 
 def see_saved(browser, trial):
     text = trial.printed('tally', *FILES)
-    for said, name, wanted in ('Save the text', 'tally.txt', text), ('Save the totals as CSV', 'tally.csv', csv_of(text.decode()).encode()):
-        trial.see(said, saved(browser, said, name), wanted)
+    trial.see('the text, as a file', saved(browser, 'Save the text', 'tally-incomplete.txt'), text)     # a file is refused
+    trial.see('the totals as CSV', saved(browser, 'Save the totals as CSV', 'tally-incomplete.csv').decode(), csv_of(text.decode()))
 
 
 def see_volume(browser, trial):
-    """A volume of merge that is saved: the command's bytes. A date that is none gives no volume."""
+    """A volume of merge that is saved: the command's bytes; and fields of which there is none."""
     words, label = ['merge', '--', 'definition.json', '2024-11-07T00:00:00Z', 'desk-1', '2', *FILES[1:]], 'Save the volume'
-    for key, value in ('date', 'never'), ('device', 'desk-1'), ('number', '2'):
+    why.see_fields(browser, trial, PRESS % label)
+    for key, value in ('date', '2024-11-07T00:00:00Z'), ('device', 'desk-1'), ('number', '2'):
         browser.value("(document.getElementById('%s').value = '%s')" % (key, value))
-    browser.value(PRESS % label)
-    trial.see('no volume of no date', browser.value(SETTLED)[:21], 'The program stopped: ')
-    browser.value("(document.getElementById('date').value = '2024-11-07T00:00:00Z')")
     trial.see('the volume', saved(browser, label, 'volume-2.json'), trial.printed(*words))
     trial.see('it is said', browser.value(SETTLED), 'Saved, as by: cvr ' + ' '.join(words))
 
 
 def csv_of(text):
-    """The CSV that a tally asks for."""
-    lines = ['"contest","unit","batch","number of","selection","number"']
-    for row in map(parts, text.splitlines()):
-        where = ','.join('"%s"' % it if it is not None else '' for it in row[:3])
-        lines += ['%s,"%s",,"%s"' % (where, name.lower(), number) for name, number in zip(COLUMNS, stated(row[0], row[3:9]))]
-        lines += ['%s,"votes","%s","%d"' % (where, key, number) for key, number in zip(row[9::2], row[10::2])]
-    return ''.join(it + '\r\n' for it in lines)
+    """The CSV that a tally asks for: the sums of each contest, and the rows."""
+    rows = [parts(line) for line in text.splitlines()]
+    lines = [canvass.CSV_HEAD]
+    for contest, numbers in summed(rows, 0).items():
+        lines += csv_lines('sum,,,', contest, next(row[9::2] for row in rows if row[0] == contest), numbers)
+    for contest, unit, batch, *its in rows:
+        lines += csv_lines('row,%s,%s,%s' % (unit, NAMES[unit].rpartition(' ')[0], batch), contest, its[6::2], its[:6] + its[7::2])
+    return '\ufeff%s\r\n"NOT IN THE TALLY: damaged.json: %s"\r\n' % (PARTLY, REFUSED) + ''.join(it + '\r\n' for it in lines)
+
+
+def csv_lines(where, contest, selections, numbers):
+    """The line of a contest with its numbers, and those of its selections with their votes."""
+    head = '%s,%s,%s' % (where, contest, NAMES[contest].rpartition(' ')[0])
+    yield '%s,,,%d,%s' % (head, sum(numbers[6:]), ','.join(it.replace(',', '') for it in stated(contest, numbers[:6])))
+    yield from ('%s,%s,%s,%d,,,,,,' % (head, key, SHORT[key], votes) for key, votes in zip(selections, numbers[6:]))
 
 
 def see_odd(browser, trial, folder):
@@ -402,7 +419,11 @@ def see_cancel(browser, trial, folder, seconds=1):
     busy = browser.value("document.getElementById('cancel').hidden")
     browser.value(CLICK % 'cancel')
     trial.see('there is a run to cancel', busy, False)
-    trial.see('a run is cancelled', browser.value(SETTLED), 'Cancelled. Nothing is shown.')
+    trial.see('a run is cancelled', browser.value(TEXTS % 'state'), 'Cancelled. Nothing is shown.')
+    end = time.time() + seconds
+    while browser.value(TEXTS % 'state').startswith('Cancelled') and time.time() < end:
+        time.sleep(0.1)
+    trial.see('nothing goes on', browser.value(TEXTS % 'state'), 'Cancelled. Nothing is shown.')
     trial.see('nothing is shown then', browser.value(TEXTS % 'answer'), '')
     trial.see('the next run is done', tallied(browser, COUNTY, FILES[:3]), 'Done.')
     trial.see('and right', browser.value(TEXTS % 'text'), trial.printed('tally', *FILES[:3]).decode())
@@ -446,17 +467,17 @@ def see_memory(trial, page):
 
 
 def see_refused(browser, trial, folder):
-    """A definition that is refused, two files of one name, and a file that is changed before it is read."""
-    trial.see('a refused definition', tallied(browser, COUNTY, ['damaged.json', 'scan.json']), 'The definition was refused, so there is no tally.')
+    """A definition that is refused, and a file that is changed before it is read."""
+    trial.see('a refused definition', tallied(browser, COUNTY, ['damaged.json', 'scan.json'], 'damaged.json'), 'The definition was refused, so there is no tally.')
     trial.see('shows why', 'refused, E3' in browser.value(TEXTS % 'answer'), True)
-    browser.give('#files', [os.path.join(COUNTY, 'scan.json')])
-    trial.see('a second file of a name', 'another file has the same name: scan.json' in browser.value(SETTLED), True)
     path = os.path.join(folder, 'changing.json')
     for text in '{}', '{"a": 1, "b": 2}':
         with open(path, 'w') as file:
             file.write(text)
         if text == '{}':
             given(browser, [os.path.join(COUNTY, 'definition.json'), path])
+    browser.value(CHOOSE % 'definition.json')
+    browser.value(SETTLED)
     browser.value(CLICK % 'tally')
     # Chromium sees the change; Firefox reads as many bytes as there were, and the page has their sum.
     said, shown = browser.value(SETTLED), browser.value(TEXTS % 'answer')
@@ -523,13 +544,15 @@ def see_keys(browser, trial, page):
     press(browser, 'Tab', 9)
     trial.see('Tab goes to the button', browser.value('document.activeElement.id'), 'tally')
     press(browser, 'Enter', 13, '\r')
-    trial.see('Enter has the files tallied', browser.value(SETTLED), 'Done.')
+    trial.see('Enter has the files tallied', browser.value(SETTLED), PARTLY + '.')
+    trial.see('the focus goes to the heading', browser.value("document.activeElement === document.querySelector('#answer h1')"), True)
+    first = browser.value("(%s).findIndex(it => it.closest('#answer'))" % REACHED)
     wanted, found = browser.value('(%s).length' % REACHED), []
     for _ in range(2 * wanted):     # it also stops at what can be scrolled, and at the end of the page
         press(browser, 'Tab', 9)
         found += [browser.value('(%s).indexOf(document.activeElement)' % REACHED)]
     found = [it for it in found if it >= 0][:wanted]
-    trial.see('Tab goes to all in turn, from behind the button', found, [*range(4, wanted), *range(4)])
+    trial.see('Tab goes to all in turn, from behind the heading', found, [*range(first, wanted), *range(first)])
     browser.call('Accessibility.enable')
     nodes = [it for it in browser.call('Accessibility.getFullAXTree')['nodes'] if not it['ignored']]
     nameless = [it['role']['value'] for it in nodes if it['role']['value'] in ROLES and not it.get('name', {}).get('value')]
@@ -549,6 +572,8 @@ def see_views(browser, trial, page, pictures):
         browser.call('Emulation.setEmulatedMedia', media=media, features=features)
         tallied(browser, COUNTY, FILES)
         what = '%d%s%s' % (width, media, 'dark' if features else '')
+        if width == 390:
+            choosing.see_narrow(browser, trial)
         trial.see('nothing is wider than the window, %s' % what, browser.value('document.documentElement.scrollWidth') <= width, True)
         colours = browser.value('[getComputedStyle(document.documentElement).color, getComputedStyle(document.documentElement).backgroundColor]')
         wanted = ['rgb(232, 232, 232)', 'rgb(22, 24, 27)'] if features else ['rgb(27, 27, 27)', 'rgb(255, 255, 255)']
@@ -559,9 +584,12 @@ def see_views(browser, trial, page, pictures):
             keep_picture(browser, pictures, what)
     browser.call('Emulation.setEmulatedMedia', media='', features=[])
     if pictures:        # that of README
-        browser.open(page, width=900, height=760)
+        browser.open(page, width=900, height=1000)
         browser.value(SETTLED)
-        tallied(browser, COUNTY, FILES[:3])
+        given(browser, [os.path.join(COUNTY, it) for it in (*FILES[:3], 'manifest.csv')])
+        browser.value(CLICK % 'tally')
+        browser.value(SETTLED)
+        browser.value("[...document.querySelectorAll('#answer h2')].find(it => it.textContent === 'Ballots').scrollIntoView()")
         keep_picture(browser, pictures, None)
 
 
@@ -571,7 +599,6 @@ def keep_picture(browser, pictures, what):
         file.write(page_picture.smaller(browser.picture()))
 
 
-OPTIONS = "[...document.getElementById('definition').options].map(it => it.value)"
 FILLED = """new Promise(done => {
   const look = left => { const its = %s; its.length || !left ? done(its) : setTimeout(look, 20, left - 1) }
   look(3000)
@@ -588,7 +615,7 @@ def see_dropped(browser, trial, folder):
     browser.drop('#drop', [above, other])
     trial.see('what was dropped', browser.value(FILLED), ['damaged.json', 'dropped/adjudicated.json', 'dropped/definition.json', 'dropped/scans/scan.json'])
     browser.value(CLICK % 'tally')
-    trial.see('it is tallied', browser.value(SETTLED), 'Done.')
+    trial.see('it is tallied', browser.value(SETTLED), 'INCOMPLETE: 1 of 3 files was refused.')
     trial.see('its text', browser.value(TEXTS % 'text'), trial.printed('tally', *FILES[:3]).decode())
 
 
@@ -619,14 +646,18 @@ def slipped(way, module):
 
 def see_ways(browser, trial, folder, word):
     """Each slip of the page is found, once the page has started."""
-    page, seen = os.path.join(folder, 'slip.html'), {
+    page = os.path.join(folder, 'slip.html')
+    seen = {
         'county': lambda own: see_county(browser, own, page), 'warnings': lambda own: see_warnings(browser, own),
         'ranks': lambda own: see_ranks(browser, own), 'folded': lambda own: see_folded(browser, own),
         'odd': lambda own: see_odd(browser, own, tempfile.mkdtemp(dir=folder)), 'cancel': lambda own: see_cancel(browser, own, folder, 240),
         'no device': lambda own: see_no_device(browser, own, tempfile.mkdtemp(dir=folder)),
         'gather': lambda own: exports.see_exports(browser, own, folder, True),
-        'saved': lambda own: (tallied(browser, COUNTY, FILES), see_saved(browser, own))}
-    for way in tenth.chosen(word, slips.WAYS, lambda it: it.name):
+        'saved': lambda own: (tallied(browser, COUNTY, FILES), see_saved(browser, own)), 'keys': lambda own: see_keys(browser, own, page),
+        'narrow': lambda own: (browser.open(page, width=390), browser.value(SETTLED), tallied(browser, COUNTY, FILES), choosing.see_narrow(browser, own)),
+        **canvass.ways(browser, page), **why.seen(browser),
+        **{it.__name__: lambda own, call=it: call(browser, own, tempfile.mkdtemp(dir=folder)) for it in choosing.ALL}}
+    for way in tenth.chosen(word, slips.WAYS + why.WAYS, lambda it: it.name):
         own = Trial(trial.name, trial.cvr, trial.module, False)
         with open(page, 'w', encoding='utf-8', newline='') as file:
             file.write(slipped(way, trial.module))
@@ -637,6 +668,8 @@ def see_ways(browser, trial, folder, word):
             seen[way.seen](own)
         except Found:
             pass
+        except OSError:         # with some the page answers no more
+            own.wrong += 1
         trial.see('a slip is found: ' + way.name, (starts, own.wrong > 0), (True, True))
 
 
@@ -651,10 +684,13 @@ def see_browser(kind, trial, page, words):
             see_warnings(browser, trial)
             see_folded(browser, trial)
             see_ranks(browser, trial)
+            canvass.see_all(browser, trial, page, kind is chromium)
             see_no_device(browser, trial, folder)
             see_odd(browser, trial, tempfile.mkdtemp(dir=folder))
             exports.see_exports(browser, trial, folder, kind is chromium)
+            choosing.see_choosing(browser, trial, folder, kind is chromium)
             see_refused(browser, trial, folder)
+            why.see_all(browser, trial)
             see_cancel(browser, trial, folder)
             see_network(browser, trial)
             if kind is chromium:

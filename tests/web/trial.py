@@ -8,6 +8,9 @@ TOP = os.path.dirname(os.path.dirname(os.path.dirname(os.path.abspath(__file__))
 COUNTY = os.path.join(TOP, 'examples', 'county')
 FILES = ['definition.json', 'scan.json', 'adjudicated.json', 'corrected.json', 'damaged.json']
 SECONDS = 300       # of a command
+PARTLY = 'INCOMPLETE: 1 of 4 files was refused'     # of these
+REFUSED = ('refused, E3. The file does not have the form of a report: a required member is absent, at /CVR/0/UniqueId. '
+           'Have it mended by the maker of the tool that wrote it, and exported again.')
 COLUMNS = ['Ballots', 'Overvotes', 'Undervotes', 'Write-ins', 'Pending', 'Unassigned']
 SETTLED = '''new Promise(done => {
   const look = () => { const it = document.getElementById('state').textContent; /^(Starting|Reading|Running)/.test(it) ? setTimeout(look, 20) : done(it) }
@@ -17,6 +20,8 @@ GIVEN = SETTLED.replace('(Starting|', '(0 files|Starting|')
 TEXTS = "document.getElementById('%s').textContent"
 PRESS = "[...document.querySelectorAll('button')].find(it => it.textContent === '%s').click()"
 CLICK = "document.getElementById('%s').click()"
+CHOOSE = "(it => { it.value = '%s'; it.dispatchEvent(new Event('change')) })(document.getElementById('definition'))"
+OPTIONS = "[...document.getElementById('definition').options].map(it => it.value).filter(it => it)"
 
 
 class Found(Exception):
@@ -48,9 +53,12 @@ def sum_of(path):
         return hashlib.sha256(file.read()).hexdigest()
 
 
-def tallied(browser, folder, names):
-    """Gives files, has them tallied, and answers what the page then says."""
+def tallied(browser, folder, names, chosen=None):
+    """Gives files, has them tallied, under the definition that is chosen where one is, and answers what the page then says."""
     given(browser, [os.path.join(folder, it) for it in names])
+    if chosen:
+        browser.value(CHOOSE % chosen)
+        browser.value(SETTLED)
     browser.value(CLICK % 'tally')
     return browser.value(SETTLED)
 

@@ -1,6 +1,11 @@
-"""What heads and cells of ES&S's CSV say (docs/GATHER.md). Both are compared by their letters and digits
-alone, without regard to case."""
+"""What heads and cells of ES&S's CSV say, and the names of choices in other forms (docs/GATHER.md). All are
+compared by their letters and digits alone, without regard to case."""
 import re
+import shlex
+from collections import Counter
+
+from .program import WORDS, ended
+from .terminal import in_a_line
 
 UNDERVOTE, OVERVOTE = 'undervote', 'overvote'
 
@@ -71,14 +76,69 @@ def why_no_word(cell):
     return None
 
 
-# what is said of one that another form lists as a choice
+ABSENT, CHOICE = 'absent', 'choice'
+MEANINGS = UNDERVOTE, OVERVOTE, ABSENT, CHOICE
+BAD = ('--means: %s has to be a text, neither undervote nor overvote, and what it says (' + ', '.join(MEANINGS)
+       + '), such as N/A=absent')
+UNUSED = '--means: no %s of the export is %s'
 NO_CHOICE = ('the choice %s of %s may say that there is no vote, or too many, or something else that is not known; '
-             'have it exported without that choice')
+             'have it exported without that choice or, where it is one, go on with --means %s')
+NO_WORD = '%s in the column %s is no choice, but %s; say what it means, as in --means %s'
 
 
-def is_no_choice(name):
-    """Whether what a form lists as a choice says that there is no vote, or it isn't known what."""
-    return plain(name) in (UNDERVOTE, OVERVOTE) or why_no_word(name) is not None
+def meanings_in(texts):
+    """What --means says: by text its meaning."""
+    held = {}
+    for it in texts or ():
+        text, _, meaning = it.rpartition('=')
+        if not text.strip() or text in held or text.lower() in (UNDERVOTE, OVERVOTE) or meaning not in MEANINGS:
+            raise ended(WORDS, BAD % it)
+        held[text] = meaning
+    return held
+
+
+class Meanings:
+    """What texts say: as --means has it for a text as a refusal shows it, and else as the lists do. `used`
+    has the number of cells or choices with each text of --means."""
+
+    def __init__(self, texts):
+        self.given, self.used = meanings_in(texts), Counter()
+
+    def of(self, text):
+        """What --means says of a text, or None."""
+        return self.given.get(in_a_line(text))
+
+    def plain(self, cell):
+        """A cell, where it has no vote or too many as the form's word for that, and empty where its
+        contest isn't on the ballot."""
+        meaning = self.of(cell)
+        return plain(cell) if meaning is None else {ABSENT: '', CHOICE: cell}.get(meaning, meaning)
+
+    def see_listed(self, fault, name, contest):
+        """Stops where a form lists as a choice what says that there is no vote, or what isn't known;
+        `fault` makes the end of a text."""
+        if self.of(name) == CHOICE:
+            self.used[in_a_line(name)] += 1
+        elif plain(name) in (UNDERVOTE, OVERVOTE) or why_no_word(name):
+            raise fault(NO_CHOICE % (name, contest, way_of(name, CHOICE)))
+
+    def see_cell(self, fault, cell, column):
+        """Stops at a cell of which it isn't known what it says."""
+        why = why_no_word(cell)
+        if why and not self.of(cell):
+            raise fault(NO_WORD % (cell, column, why, way_of(cell, ABSENT)))
+
+    def see(self, out, what):
+        """Stops at a text of --means that the export doesn't have, and notes how often it has each."""
+        for text, meaning in self.given.items():
+            if not self.used[text]:
+                raise ended(WORDS, UNUSED % (what, text))
+            out.note('by --means the text %s says: %s; %ss with it: %d' % (text, meaning, what, self.used[text]))
+
+
+def way_of(text, meaning):
+    """What --means may be given for a text."""
+    return shlex.quote('%s=%s' % (in_a_line(text), meaning))
 
 
 def why_no_choice(cell):
