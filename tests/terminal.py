@@ -68,7 +68,7 @@ KINDS = {
     'gzip': 'It is packed by gzip. Unpack it.',
     'pdf': 'It is a PDF, which has no records. Ask for the export that it was printed from.',
     'xml': 'It is XML or a page of the web. Have the records exported as JSON.' + EXPORTS,
-    'table': 'It is a table such as CSV.' + EXPORTS,
+    'table': 'It is a table such as CSV. Have the records exported as JSON; a list of voters or of batches has none.' + EXPORTS,
     'json': 'It is JSON of another kind than a report.' + EXPORTS,
     'damaged': 'It is JSON that is damaged. Have it exported again.',
     'unknown': 'It is of no kind that is known here. Ask the maker of the tool that wrote it for JSON of the standard.',

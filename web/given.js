@@ -76,9 +76,9 @@ async function settle() {
   files = is_export ? sources : sources.filter(isTaken)
   others = is_export ? [] : sources.filter(it => it.file && !isTaken(it))
   offer()
-  const some = is_export ? `An export of VxSuite: ${files.length} files.` : `${files.length} files.`
-  say((sources.length && !files.length ? await nothingSaid() : others.length ? `${some} ${countedAs(others.length, 'other')} will not be in the tally: the list has them.` : some) + manifestSaid(),
-    others.length || sources.length && !files.length)
+  const some = is_export ? `An export of VxSuite: ${files.length} files.` : `${files.length} files.`, left = leftLines().length
+  say((sources.length && !files.length ? await nothingSaid() : left ? `${some} ${countedAs(left, 'other')} will not be in the tally: the list has ${left === 1 ? 'it' : 'them'}.` : some) + manifestSaid(),
+    left || sources.length && !files.length)
 }
 
 // Fills what is chosen from, and says why there is nothing to tally.
@@ -169,12 +169,15 @@ function listLines() {
   return [...grouped(sources, it => rootOf(it.path))].flatMap(([root, some]) => isWhole(some) ? [[root, some]] : some.map(it => [it.path, [it]]))
 }
 
+// Those of which nothing is taken.
+const leftLines = () => listLines().filter(([, some]) => !some.some(isTaken) && some.some(it => it.file))
+
 // Draws the list where it is open: it may be long.
 function drawList() {
   const its = at('list'), [summary, list] = its.children
   its.hidden = !sources.length
   summary.textContent = is_export ? countedAs(listLines().length, 'export, folder or ZIP', 'exports, folders or ZIPs') :
-    countedAs(sources.length, 'file') + (others.length ? `, ${others.length} of them not taken` : '')
+    countedAs(listLines().length, 'file') + (others.length ? `, ${leftLines().length} of them not taken` : '')
   list.replaceChildren(...its.open ? listLines().map(([path, some]) => lineOf(path, some)) : [])
 }
 

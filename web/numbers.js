@@ -104,7 +104,7 @@ function voteTable(caption, selections, votes, ballots) {
 function comeTo(sums, allowed) {
   const [ballots, overvotes, undervotes, , pending, ...votes] = sums, all = votes.reduce((a, b) => a + b, 0n), total = all + overvotes + undervotes + pending
   if (allowed === undefined) return HELD.sums.UNKNOWN
-  if (allowed > 1n) return placed(HELD.sums.ALLOWED, all, ballots * allowed, all > ballots * allowed ? ': too many' : '')
+  if (allowed > 1n) return placed(HELD.sums.ALLOWED, all, total, ballots * allowed, all > ballots * allowed ? ': too many' : '')
   return placed(HELD.sums.SUMS, total, ballots, total === ballots ? 'the same' : 'not the same')
 }
 
@@ -119,7 +119,7 @@ function contestOf(names, key, rows, seen) {
   const its = names.contests.get(key), held = byId(its?.ContestSelection), selections = rows[0].selections.map(it => ({key: it, ...names.selection(held.get(it) ?? {})}))
   const sums = sumsBy(rows, 'contest').get(key), shown = shownBy(seen), name = its && textIn(its, 'Name'), marked = seen?.marked.get(key)
   if (marked) seeSame(key, sums, marked.devices)
-  return {key, rows, selections, sums, marked, ranks: seen?.ranks.get(key), is_ranked: isRanked(its, seen?.greatest), allowed: allowedBy([its]).get(key),
+  return {key, rows, selections, sums, marked, ranks: seen?.ranks.get(key), is_ranked: isRanked(its, seen?.greatest), allowed: allowedOf(its),
     shown: numbers => numbers.map((it, at) => shown(key, at, it)), title: () => text('h3', named(name, key)),
     caption: said => text('span', said, ': ', text('bdi', name || key))}
 }

@@ -211,8 +211,8 @@ class Seen {
   // Notes the votes of a contest: by rank, and as lines where no ballot has so many, in all or for one selection.
   takeVotes(contest, {columns, votes}, name) {
     const key = contest.ContestId, its = this.contests.get(key), counted = sumOf([...votes.values(), columns.unassigned]), by_rank = this.ranks.get(key) ?? new Map()
-    const stated = isNumber(its.VotesAllowed) ? its.VotesAllowed : 0, most = 'VotesAllowed' in its ? stated : ONE.includes(its['@type']) ? 1 : 0
-    if (most > 0 && counted > BigInt(most)) this.excess.get(key).push(['exceeds', spelled(key), ...name, counted, most])
+    const most = allowedOf(its)
+    if (counted > most) this.excess.get(key).push(['exceeds', spelled(key), ...name, counted, most])
     for (const it of SEVERAL.includes(its.VoteVariation) ? [] : its.ContestSelection ?? [])
       if (it.IsWriteIn !== true && votes.get(it['@id']) > 1n) this.excess.get(key).push(['doubled', spelled(key), spelled(it['@id']), ...name, votes.get(it['@id'])])
     for (const {selection, rank, votes} of positionsOf(contest)) {

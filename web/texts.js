@@ -103,6 +103,12 @@ function valueOf(text) {
 }
 
 const isNumber = it => typeof it === 'number' || typeof it === 'bigint'
+
+// How many votes a ballot has in a contest, where the definition says so.
+function allowedOf(contest) {
+  const most = 'VotesAllowed' in contest ? contest.VotesAllowed : ONE.includes(contest['@type']) ? 1 : null
+  return isNumber(most) && most > 0 ? BigInt(most) : undefined
+}
 const spelled = it => typeof it === 'bigint' ? `${it}` : JSON.stringify(it)
 const isObject = it => it !== null && typeof it === 'object' && !Array.isArray(it)
 const pointed = step => '/' + String(step).replace(/~/g, '~0').replace(/\//g, '~1')       // a step of a JSON Pointer

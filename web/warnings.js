@@ -38,12 +38,10 @@ function* contestWarnings(contests, rows, seen) {
   }
 }
 
-// How many votes a ballot has in each contest, where the definition states it.
-const allowedBy = contests => new Map(contests.filter(it => isNumber(it.VotesAllowed) && it.VotesAllowed > 0).map(it => [it['@id'], BigInt(it.VotesAllowed)]))
-
 function warningsOf({files, states, sums, repeated, seen, manifest}, contests, rows) {
   const batches = manifest && seen ? batchWarnings(manifest.batches, seen.ballots.sizes) : []
-  return [...fileWarnings(files, states, sums, repeated, seen), ...rowWarnings(rows, allowedBy(contests.filter(it => !isRanked(it, seen?.greatest)))), ...contestWarnings(contests, rows, seen), ...seen?.lines ?? [], ...batches]
+  const allowed = new Map(contests.map(it => [it['@id'], isRanked(it, seen?.greatest) ? undefined : allowedOf(it)]))
+  return [...fileWarnings(files, states, sums, repeated, seen), ...rowWarnings(rows, allowed), ...contestWarnings(contests, rows, seen), ...seen?.lines ?? [], ...batches]
 }
 
 // ---- names, and files

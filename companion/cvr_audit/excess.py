@@ -9,8 +9,9 @@ SEVERAL = 'cumulative', *VARIATIONS         # in which one selection may have se
 
 
 def allowed_of(definition):
-    """How many votes a ballot has in each contest, where the definition states it."""
-    allowed = {it['@id']: it.get('VotesAllowed') for it in definition['Election'][0]['Contest']}
+    """How many votes a ballot has in each contest, where the definition says so."""
+    contests = definition['Election'][0]['Contest']
+    allowed = {it['@id']: it.get('VotesAllowed', 1 if it['@type'] in ONE else None) for it in contests}
     return {contest: most for contest, most in allowed.items() if type(most) is int and most > 0}
 
 
@@ -19,8 +20,7 @@ class Excess:
 
     def __init__(self, definition):
         contests = definition['Election'][0]['Contest']
-        ones = {it['@id']: 1 for it in contests if it['@type'] in ONE and 'VotesAllowed' not in it}
-        self.allowed = {**ones, **allowed_of(definition)}
+        self.allowed = allowed_of(definition)
         self.selections = counting.selections_of(definition)
         self.singles = {it['@id']: singles_of(it) for it in contests}
         self.held = {contest: [] for contest in self.selections}

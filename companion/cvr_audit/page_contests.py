@@ -8,7 +8,8 @@ COLUMNS = 10        # columns of numbers in one table, as a sheet of paper has r
 WITHHELD = '*'
 UNKNOWN = ('The definition does not say how many votes a ballot has (VotesAllowed), so nothing is '
            'said of whether they come to the ballots.')
-ALLOWED = 'Votes and unassigned come to {:,}, and the ballots have {:,}{}.'
+ALLOWED = ('Votes and unassigned come to {:,}, with overvotes, undervotes and pending to {:,}, and the '
+           'ballots have {:,}{}.')
 SUMS = 'Votes, overvotes, undervotes, pending and unassigned come to {:,}, the ballots to {:,}: {}.'
 RANKED = 'The votes of this contest are ranks or scores: {}, and no rounds are computed.'
 BY_RANK, ELSEWHERE = 'they stand by rank', 'they stand on the whole page alone'
@@ -127,7 +128,7 @@ def sums_of(contest):
         return UNKNOWN
     if contest.allowed > 1:
         most = contest.ballots * contest.allowed
-        return ALLOWED.format(counted, most, ': too many' if counted > most else '')
+        return ALLOWED.format(counted, total, most, ': too many' if counted > most else '')
     return SUMS.format(total, contest.ballots, 'the same' if total == contest.ballots else
                        'not the same')
 

@@ -121,7 +121,7 @@ Gus gus | *
 Write-in coroner-1 | *
 Write-in coroner-2 | *
 """]                        # of page_sets.write_ins()
-TOO_MANY = ['Votes and unassigned come to 7, and the ballots have 6: too many.\n', ' 3 2: School board (board)\n']
+TOO_MANY = ['Votes and unassigned come to 7, with overvotes, undervotes and pending to 7, and the ballots have 6: too many.\n', ' 3 2: School board (board)\n']
 COUNTS = """Contest | cvr: ballots | cvr: votes | cvr-audit: ballots | cvr-audit: votes | second: ballots | second: votes
 County Council council | 4 | 2 | 4 | 2 | 4 | 2
 Measure 1: parks parks | 4 | 3 | 4 | 3 | 4 | 3""".splitlines()

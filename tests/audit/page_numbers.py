@@ -23,6 +23,7 @@ WARNINGS = ['File refused', 'No file', 'The definition is among the files', 'Rec
             'Record without a contest', 'Decided without a name or a moment', 'Decided by nobody',
             'Later than its files', 'Two texts of a device', 'Ranks or scores', 'Not stated',
             'Fewer records than the files have', 'Adjudicated records']
+MEASURES = 'CVR.BallotMeasureContest', 'CVR.RetentionContest'       # which allow one vote, where they state nothing
 COUNTED = ['Contest', 'cvr: ballots', 'cvr: votes', 'cvr-audit: ballots', 'cvr-audit: votes']
 ODD = '\x00\x07\x85\ufffe'      # the characters of page_sets.py that HTML can't have
 
@@ -33,7 +34,7 @@ class Tally:
     def __init__(self, text, definition):
         contests = definition['Election'][0]['Contest']
         self.contests = {it['@id']: it.get('ContestSelection', []) for it in contests}
-        self.allowed = {it['@id']: it.get('VotesAllowed') for it in contests}
+        self.allowed = {it['@id']: it.get('VotesAllowed', 1 if it['@type'] in MEASURES else None) for it in contests}
         self.ranked = {it['@id'] for it in contests if it.get('VoteVariation') in RANKED}
         self.rows = {key: [] for key in self.contests}
         for line in text.split('\n')[:-1]:
@@ -160,15 +161,15 @@ class Held:
         held, ballots = dict(zip(COLUMNS, numbers)), numbers[0]
         allowed, counted = self.tally.allowed[key], sum(numbers[END:]) + held['Unassigned']
         found = [int(it.replace(',', '')) for it in re.findall(r'[0-9][0-9,]*', text)]
+        total = counted + held['Overvotes'] + held['Undervotes'] + held['Pending']
         if not allowed:
             wanted, is_well = [], 'does not say' in text
         elif allowed > 1:
-            wanted, is_well = [counted, ballots * allowed], counted <= ballots * allowed
+            wanted, is_well = [counted, total, ballots * allowed], counted <= ballots * allowed
             is_well = is_well == (not text.endswith(': too many.'))
         else:
-            others = held['Overvotes'] + held['Undervotes'] + held['Pending']
-            wanted = [counted + others, ballots]
-            is_well = (wanted[0] == ballots) == text.endswith(': the same.')
+            wanted = [total, ballots]
+            is_well = (total == ballots) == text.endswith(': the same.')
         if found != wanted or not is_well:
             self.wrong.append('%s: %s' % (key, text))
 

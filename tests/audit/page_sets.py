@@ -25,10 +25,12 @@ def report(contests, units, records=(), name='Invented election'):
 
 
 def contest(parts):
+    """A measure that allows so many votes, or 0 where it states none; or, with None, a contest of people that states none."""
     key, title, allowed, selections = parts
+    kind = 'CVR.CandidateContest' if allowed is None else 'CVR.BallotMeasureContest'
     chosen = [{'@type': 'CVR.BallotMeasureSelection', '@id': one, 'Selection': text}
               for one, text in selections]
-    return {'@type': 'CVR.BallotMeasureContest', '@id': key, 'Name': title,
+    return {'@type': kind, '@id': key, 'Name': title,
             'ContestSelection': chosen, **({'VotesAllowed': allowed} if allowed else {})}
 
 

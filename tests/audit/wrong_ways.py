@@ -255,7 +255,7 @@ WAYS = [
     Way('takes_any_volume', 'origins.py', 'if name not in self.records:', 'if False:',
         'a record that stands in no volume'),
     # ---- single records
-    Way('lets_measures_have_any_votes', 'excess.py', "if it['@type'] in ONE and", 'if False and', HIDDEN),
+    Way('lets_measures_have_any_votes', 'excess.py', "1 if it['@type'] in ONE else None", 'None', HIDDEN),
     Way('lets_one_vote_too_many_pass', 'excess.py', 'counted > most:', 'counted > most + 1:', HIDDEN),
     Way('lets_two_votes_for_one_pass', 'excess.py', 'if votes > 1 and', 'if votes > 2 and', HIDDEN),
     Way('takes_written_names_for_one', 'excess.py', "if it.get('IsWriteIn') is not True}", '}', HIDDEN),

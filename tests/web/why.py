@@ -76,7 +76,7 @@ SOURCES = [
     ("it's/e.txt", b'Cast Vote Record,Precinct\n', [MAKER % 'ES&S', GATHER % "'it'\"'\"'s'"]),
     ('x/CvrExport_1.json', b'{"Version": "5", "Sessions": []}', ['It is JSON of another kind than a report. It is an export of Dominion, as JSON.', GATHER % 'x']),
     ('x/metadata.json', b'{"castVoteRecordReportMetadata": {}}', ['It is JSON of another kind than a report. It is an export of VxSuite.', GATHER % 'x']),
-    ('x/manifest.csv', b'batch,ballots\n', ['It is a table such as CSV.', '']),
+    ('x/manifest.csv', b'batch,ballots\n', ['It is a table such as CSV.', 'Have the records exported as JSON; a list of voters or of batches has none.']),
     ('x/1.xml', b' <a/>', ['It is XML or a page of the web.', 'Have the records exported as JSON.']),
     ('a.docx/word/document.xml', b'<w/>', OFFICE), ('a.rtf', b'{\\rtf1 x}', OFFICE), ('a.xlsx/xl/workbook.xml', b'<w/>', BOOK), ('zip', b'PK\3\4', BOOK),
     ('x/', b'', ['It is empty.', 'Copy it again.']), ('blank', b'\n \t', ['It is empty.', 'Copy it again.']),

@@ -88,8 +88,8 @@ pub fn kind_words(kind: Kind) -> &'static str {
              makes reports of the exports that it knows."
         }
         Kind::Table => {
-            "It is a table such as CSV. cvr-audit gather makes reports of the exports that it \
-             knows."
+            "It is a table such as CSV. Have the records exported as JSON; a list of voters or of \
+             batches has none. cvr-audit gather makes reports of the exports that it knows."
         }
         Kind::Json => {
             "It is JSON of another kind than a report. cvr-audit gather makes reports of the \
