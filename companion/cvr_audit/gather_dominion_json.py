@@ -1,4 +1,5 @@
 """The JSON of Dominion: CvrExport.json, and lists of what its numbers name."""
+import json
 from collections import Counter, namedtuple
 from functools import partial
 
@@ -314,13 +315,21 @@ def read(sources, out, cvr, words):
     return export.frame.report()
 
 
-def cards_of(session):
-    """How many cards a session has."""
-    return len(session['Original']['Cards']) if 'Cards' in session['Original'] else 1
+class Cards:
+    """Counts the cards of sessions. An object stands for how many it has, so that none is held."""
+
+    def __init__(self):
+        self.count = 0
+
+    def take(self, value):
+        if 'Original' in value:
+            self.count += value['Original'] or 1        # without cards it is one itself
+        return len(value['Cards']) if 'Cards' in value else None
 
 
 def count(sources):
     """The number of records and of names, counted in another way: one for each card of Original."""
-    number = sum(cards_of(it) for source in filter(is_export, sources)
-                 for it in value_in(source)['Sessions'])
-    return number, number
+    cards = Cards()
+    for source in filter(is_export, sources):
+        json.loads(source.text(), object_hook=cards.take)
+    return cards.count, cards.count

@@ -1,6 +1,9 @@
 """JSON of an export: a document whose long array is read item by item, each with its own text."""
 import json
 import re
+from collections import Counter
+from contextlib import contextmanager
+from functools import partial
 from json.decoder import scanstring
 
 from . import definition, program
@@ -9,6 +12,7 @@ from .gather_out import Record
 from .gather_source import fault
 from .reading import pointer, spelled
 
+UNSURE = 10         # signs at the end of what is held of a text, which may be part of a word or a number
 WHITE = re.compile(r'[ \t\n\r]*')
 ESCAPED = re.compile(said.ESCAPED)
 
@@ -25,8 +29,8 @@ def once(pairs):
     """The members of an object, each once."""
     held = dict(pairs)
     if len(held) < len(pairs):
-        names = [name for name, _ in pairs]
-        raise Repeated(next(it for it in names if names.count(it) > 1))
+        (again, _), *_ = Counter(name for name, _ in pairs).most_common(1)
+        raise Repeated(again)
     return held
 
 
@@ -34,32 +38,107 @@ DECODER = json.JSONDecoder(parse_constant=no_number)
 STRICT = json.JSONDecoder(parse_constant=no_number, object_pairs_hook=once)
 
 
-def twice(source, wrong):
-    return fault(source.name, said.TWICE % spelled(wrong.args[0]))
-
-
-def text_of(source):
-    """The text of a source. It has no half of a pair of surrogates, which would be no sign."""
-    text = source.text()
-    for found in ESCAPED.finditer(text):
+def see_whole(source, text, start, end, lines=0):
+    """Stops at half of a pair of surrogates in a part of a text behind so many lines: it would be no sign."""
+    for found in ESCAPED.finditer(text, start, end):
         if found.group(1):
-            line = text.count('\n', 0, found.start()) + 1
+            line = lines + text.count('\n', 0, found.start()) + 1
             raise fault(source.name, said.HALF % found.group(), 'line %d' % line)
-    return text
 
 
-def behind(text, place):
-    """The index behind white space."""
-    return WHITE.match(text, place).end()
+@contextmanager
+def reading(source, lines=lambda: 0):
+    """Stops where a source is no JSON; its text is behind so many lines."""
+    try:
+        yield
+    except Repeated as wrong:
+        raise fault(source.name, said.TWICE % spelled(wrong.args[0])) from None
+    except json.JSONDecodeError as wrong:
+        line = 'line %d' % (lines() + wrong.lineno)
+        raise fault(source.name, said.NO_JSON % wrong.msg, line) from None
+    except (ValueError, RecursionError) as wrong:
+        raise fault(source.name, said.NO_JSON % wrong) from None
 
 
-def sign_at(text, place, signs):
-    """The sign that stands at an index, behind white space, and the index behind it."""
-    place = behind(text, place)
+def is_open(wrong):
+    """Whether what is no JSON could be so with more text behind it."""
+    return wrong.msg.startswith('Unterminated') or wrong.pos + UNSURE > len(wrong.doc)
+
+
+# What stands in a text behind white space from an index, and the index behind it.
+
+def sign_at(signs, text, place):
+    place = WHITE.match(text, place).end()
     sign = text[place:place + 1]
     if not sign or sign not in signs:
         raise json.JSONDecodeError('Expecting %s' % ' or '.join(signs), text, place)
     return sign, place + 1
+
+
+def name_at(text, place):
+    return scanstring(text, sign_at('"', text, place)[1])
+
+
+def is_empty_at(text, place):
+    """Whether an array ends where its first item could begin."""
+    place = WHITE.match(text, place).end()
+    if place == len(text):
+        raise json.JSONDecodeError('Expecting value', text, place)
+    is_empty = text[place] == ']'
+    return is_empty, place + is_empty
+
+
+def end_at(text, place):
+    place = WHITE.match(text, place).end()
+    if place < len(text):
+        raise json.JSONDecodeError('Extra data', text, place)
+    return None, place
+
+
+class Window:
+    """The text of a source, of which so much is held as a value needs. Its reader stands at an
+    index, and behind so many lines that are no longer held."""
+
+    def __init__(self, source):
+        self.source, self.texts, self.is_whole = source, source.texts(), False
+        self.text, self.place, self.lines = '', 0, 0
+
+    def take(self, call):
+        """What a call answers at the reader's index, once nothing that comes can change it."""
+        while True:
+            try:
+                value, end = call(self.text, self.place)
+            except json.JSONDecodeError as wrong:
+                if self.is_whole or not is_open(wrong):
+                    raise
+            else:
+                if self.is_whole or end + UNSURE <= len(self.text):
+                    break
+            self.read_on()
+        self.see_size(end - self.place)
+        see_whole(self.source, self.text, self.place, end, self.lines)
+        self.place = end
+        return value
+
+    def see_size(self, size):
+        if size > said.VALUE:
+            line = self.lines + self.text.count('\n', 0, self.place) + 1
+            raise fault(self.source.name, said.TOO_LARGE % said.VALUE, 'line %d' % line)
+
+    def read_on(self):
+        """Reads as much again as is held behind the reader, and lets the rest go."""
+        held, size = [self.text[self.place:]], len(self.text) - self.place
+        self.see_size(size)
+        self.lines += self.text.count('\n', 0, self.place)
+        wanted = min(2 * size, said.VALUE)
+        for text in self.texts:
+            held.append(text)
+            size += len(text)
+            if size > wanted:
+                break
+        else:
+            self.is_whole = True
+        self.text, self.place = ''.join(held), 0
 
 
 class Document:
@@ -69,65 +148,54 @@ class Document:
 
     def __init__(self, source, name, decoder=DECODER):
         self.source, self.name, self.decoder = source, name, decoder
-        self.rest, self.is_there = {}, False
+        self.rest, self.is_there, self.room = {}, False, said.VALUE
 
     def items(self):
-        text = text_of(self.source)
-        try:
-            yield from self.members(text)
-        except Repeated as wrong:
-            raise twice(self.source, wrong) from None
-        except json.JSONDecodeError as wrong:
-            raise self.no_json(wrong.msg, 'line %d' % wrong.lineno) from None
-        except (ValueError, RecursionError) as wrong:
-            raise self.no_json(str(wrong)) from None
+        window = Window(self.source)
+        with reading(self.source, lambda: window.lines):
+            yield from self.members(window)
 
-    def no_json(self, text, place=None):
-        return fault(self.source.name, said.NO_JSON % text, place)
+    def value_at(self, text, place):
+        """A value with its text."""
+        start = WHITE.match(text, place).end()
+        value, end = self.decoder.raw_decode(text, start)
+        return (value, text[start:end]), end
 
-    def members(self, text):
-        sign, place, seen = *sign_at(text, 0, '{'), set()
+    def members(self, window):
+        sign, seen = window.take(partial(sign_at, '{')), set()
         while sign != '}':
-            _, place = sign_at(text, place, '"')
-            name, place = scanstring(text, place)
-            _, place = sign_at(text, place, ':')
+            name = window.take(name_at)
+            window.take(partial(sign_at, ':'))
             if name in seen:
                 raise Repeated(name)
             seen.add(name)
             if name == self.name:
-                place = yield from self.array(text, place)
+                yield from self.array(window)
             else:
-                self.rest[name], place = self.decoder.raw_decode(text, behind(text, place))
-            sign, place = sign_at(text, place, ',}')
-        if behind(text, place) != len(text):
-            raise json.JSONDecodeError('Extra data', text, place)
+                self.rest[name], text = window.take(self.value_at)
+                self.room -= len(text)
+                if self.room < 0:
+                    raise fault(self.source.name, said.TOO_LARGE % said.VALUE, spelled(name))
+            sign = window.take(partial(sign_at, ',}'))
+        window.take(end_at)
         self.is_there = self.name in seen
 
-    def array(self, text, place):
-        """The items of the array at an index; answers the index behind it."""
-        sign, place = sign_at(text, place, '[')
-        if text.startswith(']', behind(text, place)):
-            return behind(text, place) + 1
-        number = 0
+    def array(self, window):
+        """The items of the array at which a window's reader stands."""
+        sign, number = window.take(partial(sign_at, '[')), 0
+        if window.take(is_empty_at):
+            return
         while sign != ']':
-            start = behind(text, place)
-            value, end = self.decoder.raw_decode(text, start)
-            yield number, value, text[start:end]
-            sign, place = sign_at(text, end, ',]')
-            number += 1
-        return place
+            yield number, *window.take(self.value_at)
+            sign, number = window.take(partial(sign_at, ',]')), number + 1
 
 
 def value_in(source):
     """The value of a source that is read whole."""
-    try:
-        return STRICT.decode(text_of(source))
-    except Repeated as wrong:
-        raise twice(source, wrong) from None
-    except json.JSONDecodeError as wrong:
-        raise fault(source.name, said.NO_JSON % wrong.msg, 'line %d' % wrong.lineno) from None
-    except (ValueError, RecursionError) as wrong:
-        raise fault(source.name, 'it is no JSON: %s' % wrong) from None
+    with reading(source):
+        text = source.text(said.VALUE)
+        see_whole(source, text, 0, len(text))
+        return STRICT.decode(text)
 
 
 # ---- reports of the standard

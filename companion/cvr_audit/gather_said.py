@@ -21,6 +21,14 @@ TOO_LONG = 'it unpacks to %d bytes, which is too many'
 AGAIN = 'it stands twice in the ZIP'
 TOO_MUCH = 'it unpacks to more than %d bytes'
 
+# ---- what is held in memory at once
+TEXT = 1 << 28              # bytes of a text that is read whole
+VALUE = 1 << 25             # of a list, of an item of a longer one, or of all that stands beside it
+TREE = 1 << 23              # of XML, or of a row of a table
+WIDEST = 20000              # columns of a table
+TOO_LARGE = 'it has more than %d bytes, which are too many to hold at once'
+TOO_WIDE = 'it has more than %d columns'
+
 # ---- reports
 NO_TEXT = 'this is not text in UTF-8; export it in that encoding'
 NO_JSON = 'it is no JSON, or cut off: %s'

@@ -1,4 +1,5 @@
 """What `gather` reads: files, and those in folders and ZIPs, as one list of sources."""
+import codecs
 import errno
 import hashlib
 import io
@@ -7,7 +8,7 @@ import re
 import stat
 import zipfile
 import zlib
-from itertools import zip_longest
+from itertools import chain, zip_longest
 
 from . import gather_said as said
 from .program import ended
@@ -65,8 +66,8 @@ class Source:
         return self.is_named_as(kind) and all(it.encode() in self.head() for it in texts)
 
     def lines(self):
-        """The lines, as bytes with their ends."""
-        return self.parts(iter)
+        """The lines, as bytes with their ends; one that is too long to be held, in parts."""
+        return self.parts(lambda file: iter(lambda: file.readline(said.TREE), b''))
 
     def parts(self, cut):
         """The parts into which an open file is cut, and their SHA-256 as `digest` at the end."""
@@ -82,18 +83,40 @@ class Source:
             raise fault(self.name, CHANGED)
         self.digest = digest.hexdigest()
 
-    def data(self):
-        """All bytes."""
-        return b''.join(self.parts(lambda file: iter(lambda: file.read(PIECE), b'')))
+    def pieces(self):
+        """The bytes, in pieces."""
+        return self.parts(lambda file: iter(lambda: file.read(PIECE), b''))
 
-    def text(self):
-        """The whole text."""
-        data = self.data()
+    def data(self, most=said.TEXT):
+        """All bytes, if they aren't too many."""
+        held = bytearray()
+        for piece in self.pieces():
+            held += piece
+            if len(held) > most:
+                raise fault(self.name, said.TOO_LARGE % most)
+        return held
+
+    def texts(self):
+        """The text, in pieces."""
+        decoder, lines = codecs.getincrementaldecoder('utf-8-sig')(), 0
+        for piece in chain(self.pieces(), [b'']):
+            try:
+                yield decoder.decode(piece, not piece)
+            except UnicodeDecodeError as wrong:
+                raise self.no_text(wrong.object, wrong.start, lines) from None
+            lines += piece.count(b'\n')
+
+    def no_text(self, data, place, lines=0):
+        """The end at a place that is no text, behind so many lines."""
+        return fault(self.name, said.NO_TEXT, 'line %d' % (lines + data.count(b'\n', 0, place) + 1))
+
+    def text(self, most=said.TEXT):
+        """The whole text, if its bytes aren't too many."""
+        data = self.data(most)
         try:
             return data.decode('utf-8-sig')
         except UnicodeDecodeError as wrong:
-            line = data.count(b'\n', 0, wrong.start) + 1
-            raise fault(self.name, said.NO_TEXT, 'line %d' % line) from None
+            raise self.no_text(data, wrong.start) from None
 
 
 def opened(path, name, held):

@@ -2,7 +2,7 @@
 import csv
 import re
 
-from .gather_said import NO_TEXT
+from .gather_said import NO_TEXT, TOO_LARGE, TOO_WIDE, TREE, WIDEST
 from .gather_source import fault
 
 QUOTED = re.compile(r'="(.*)"')     # as a spreadsheet keeps a text from being a number
@@ -22,6 +22,7 @@ class Table:
 
     def __init__(self, source):
         self.source, self.line, self.read, self.is_ended, self.raw = source, 0, 0, True, []
+        self.size = 0       # of the row that is read
 
     def fault(self, text):
         return fault(self.source.name, text, 'line %d' % self.line)
@@ -30,6 +31,10 @@ class Table:
         """The lines as texts."""
         for line in self.source.lines():
             self.read += 1
+            self.size += len(line)
+            if self.size >= TREE:
+                self.line = self.read
+                raise self.fault(TOO_LARGE % TREE)
             self.is_ended = line.endswith(b'\n')
             try:
                 text = line.decode('utf-8-sig' if self.read == 1 else 'utf-8')
@@ -53,8 +58,7 @@ class Table:
             except csv.Error as wrong:
                 self.line = first
                 raise self.fault('it is no row of CSV: %s' % wrong) from None
-            self.line = first
-            self.raw = cells
+            self.line, self.size, self.raw = first, 0, cells
             if cells:
                 yield [bare(it) for it in cells]
 
@@ -63,6 +67,8 @@ class Table:
         cells = next(rows, None)
         if cells is None:
             raise self.fault('the file ends here, before %s' % what)
+        if len(cells) > WIDEST:
+            raise self.fault(TOO_WIDE % WIDEST)
         return cells
 
     def see_distinct(self, cells):

@@ -3,6 +3,7 @@ import re
 import xml.etree.ElementTree as ElementTree
 from xml.parsers import expat
 
+from . import gather_said as said
 from .gather_source import fault
 
 UNSAFE = 'it has a document type, which may define entities; no export needs one'
@@ -31,7 +32,7 @@ def tree(source):
     parser.CharacterDataHandler = builder.data
     parser.StartDoctypeDeclHandler = parser.EntityDeclHandler = stop
     try:
-        parser.Parse(source.data(), True)
+        parser.Parse(bytes(source.data(said.TREE)), True)
         return builder.close()
     except Unsafe:
         raise fault(source.name, UNSAFE) from None

@@ -25,6 +25,7 @@ GO_ON = '; look for what is missing, or go on with --incomplete'
 NO_CONTEST = ': there is no contest, so no record has a vote'
 WITHIN = 'it is a ZIP in a folder or in another ZIP, and may have records; unpack it, or name it by itself'
 ONE_HEAD = 'two heads are one only without the spaces at their ends'
+MANY = 'it has more than %d bytes, which are too many to hold at once'
 NO_TEXT = 'this is not text in UTF-8; export it in that encoding'
 CUT = 'it is cut off, or has a comma that is not in quotes'
 NO_CHOICE = 'the choice %s of %s may say that there is no vote, or too many, or something else that is not known; have it exported without that choice or, where it is one, go on with --means %s'
@@ -201,6 +202,8 @@ def clearballot():
 def ess():
     path = 'ess.csv'
     yield 'cut in a line', cut(path, 4), 'ess.csv: line 5: the last line has no end, so its last cell may be cut off'
+    yield 'a row of many bytes', replaced(path, b'', b'a,' * (1 << 22)), 'ess.csv: line 6: ' + MANY % (1 << 23)
+    yield 'many columns', replaced(path, b'Precinct', b'Precinct' + b',a' * 20000), 'ess.csv: line 1: it has more than 20000 columns'
     yield 'cut in a choice', cut(path, 5), 'ess.csv: line 5: it has 4 cells, and the head 5: ' + CUT
     yield 'a column is missing', replaced(path, b'Precinct', b'Place'), 'ess.csv: line 1: there is no column Precinct'
     yield 'two heads that are one', replaced(path, b'Measure 1: parks', b'County Council '), 'ess.csv: line 1: ' + ONE_HEAD
@@ -227,6 +230,7 @@ def ess():
 
 def hart():
     yield 'cut', cut(HART, 10), HART + ': line 2: it is no XML, or cut off: ..'
+    yield 'many bytes', replaced(HART, b'', b'<!--%s-->' % (b' ' * (1 << 23))), HART + ': ' + MANY % (1 << 23)
     yield 'an element is missing', everywhere(HART, b'CvrGuid', b'CvrId'), HART + ': the element {http://tempuri.org/CVRDesign.xsd}CvrId in Cvr is not of this form as it is known'
     yield 'no id', lambda: write(HART, read(HART).split(b'<CvrGuid>')[0] + b'</Cvr>'), HART + ': there is no CvrGuid in a Cvr'
     yield ('an element in another', replaced(HART, b'<SheetNumber>1</SheetNumber>', b'<SheetNumber><Option/></SheetNumber>'),
@@ -316,7 +320,7 @@ def cdf():
     yield ('no device', lambda: write(path, read(path).replace(b'"CreatingDeviceId": "scanner-1",', b'', 1)),
            path + ': /CVR/0: ' + LOST % 'CreatingDeviceId')
     yield 'cut', cut(path, 4), path + ': line 147: it is no JSON, or cut off: ..'
-    yield 'two texts', replaced(path, b'', b'{}'), path + ': line 148: it is no JSON, or cut off: ..'
+    yield 'two texts', replaced(path, b'', b'{}'), path + ': line 149: it is no JSON, or cut off: ..'
     yield 'records twice', replaced(path, b'"CVR": [', b'"CVR": [], "CVR": ['), path + ': the member "CVR" stands twice in an object'
     yield ('two names', replaced(path, b'Omar Field', b'Omar Fields'),
            '/Election/0/Candidate/1/Name: cdf/adjudicated.json "Omar Field", cdf/scan.json "Omar Fields"')
@@ -376,6 +380,11 @@ def dominion_json():
     yield ('half a sign', replaced(more + 'CandidateManifest.json', b'Iris Vale', b'Iris \\ud800'),
            more + 'CandidateManifest.json: line 5: ' + HALF % '\\ud800')
     yield 'cut', cut(path, 4), path + ': line 351: it is no JSON, or cut off: ..'
+    yield ('a session of many bytes', lambda: write(path, read(path).replace(b'"ImageMask": ""', b'"ImageMask": "%s"' % (b'a' * (1 << 25)), 1)),
+           path + ': line 5: ' + MANY % (1 << 25))
+    yield ('many bytes beside the sessions', lambda: write(path, read(path).rstrip()[:-1] + b',"a":"%s","b":"%s"}' % ((b'a' * (1 << 24),) * 2)),
+           path + ': "b": ' + MANY % (1 << 25))
+    yield 'a list of many bytes', replaced(more + 'ContestManifest.json', b'', b' ' * (1 << 25)), more + 'ContestManifest.json: ' + MANY % (1 << 25)
     yield 'no sessions', everywhere(path, b'"Sessions"', b'"Session"'), 'dominion-json: ' + UNKNOWN
 
 

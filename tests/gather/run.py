@@ -5,11 +5,12 @@ Tests `cvr-audit gather` with the given program. The exports of examples/exports
 has the tally of examples/county. Random exports of make.py have the votes that recount.py counts, whose few lines share no
 code with the companion. The exports of faults.py are refused, and leave nothing. Those of planted.py, misread.py and
 misread_ess.py, which would come out wrong without a rule, are refused or read as worked out by hand; where a copy of the
-companion lacks the rule, the recount finds it. Then the slips of wrong_ways.py: each is made in a copy of the companion, and
+companion lacks the rule, the recount finds it. Documents of which a part is held at once are read as windows.py says. Then the slips of wrong_ways.py: each is made in a copy of the companion, and
 the recount of random exports has to find it. With --tenth a tenth of the random exports and of the slips are tried. The last
 line is `gather: N right, M wrong`; the status is 0 only where M is 0 and N is not."""
 import csv
 import hashlib
+import io
 import multiprocessing
 import os
 import shutil
@@ -487,6 +488,27 @@ def see_replaced(_):
             os.remove(path)
 
 
+def see_limits(_):
+    """A text of more bytes than are held at once isn't read whole."""
+    source = gather_source.Source('a', 9, lambda: io.BytesIO('abc\u00e9\u00e9\u00e9'.encode()))
+    see(source.text(9) == 'abc\u00e9\u00e9\u00e9', 'a text that is short enough')
+    try:
+        see(False, 'it is read: %r' % source.text(8))
+    except program.Ended as end:
+        see(end.log == b'cvr-audit: a: it has more than 8 bytes, which are too many to hold at once\n', repr(end.log))
+
+
+def see_windows(way=None):
+    """Documents of which a part is held are read rightly; a slip in that is found."""
+    with tempfile.TemporaryDirectory() as folder:
+        copy = companion.made(folder, way) if way else os.path.join(TOP, 'companion')
+        words = [*companion.PYTHON, os.path.join(HERE, 'windows.py'), copy]
+        done = subprocess.run(words, stdin=subprocess.DEVNULL, stdout=subprocess.PIPE, stderr=subprocess.STDOUT, timeout=SECONDS)
+    *lines, last = done.stdout.decode().splitlines()
+    is_found = done.returncode == 1 and lines and all(it.startswith('WRONG ') for it in lines)
+    see(is_found if way else (done.returncode, lines) == (0, []), '\n    '.join([*lines[:5], last]))
+
+
 def see_written(cvr):
     """Two written names of a contest are two votes. The root says where its schema is."""
     with tempfile.TemporaryDirectory() as folder:
@@ -590,7 +612,7 @@ def trials(words):
                 ('names that meet in', see_names, BATCHES), ('two parts of', see_halves, ('vxsuite', 'dominion', 'ess', 'clearballot'))]
     every = [('%s %s' % (name, kind), partial(see_it, kind, cvr)) for name, see_it, held in of_kinds for kind in held]
     every += [(see_it.__name__, partial(see_it, cvr)) for see_it in (see_there, see_two_kinds, see_long, see_changed, see_bytes, see_variants,
-                                                                   see_formulas, see_long_heads, see_mac, see_replaced, see_written, see_lists)]
+                                                                   see_formulas, see_long_heads, see_mac, see_replaced, see_limits, see_written, see_lists)]
     every += [(it.name, partial(see_fault, it, cvr)) for it in faults.all_faults()]
     every += [('words ' + ' '.join(it[0]), partial(see_words, *it, cvr)) for it in misread_ess.REFUSED]
     every += [(it.name, partial(see_planted, it, cvr)) for it in planted.CASES]
@@ -599,6 +621,7 @@ def trials(words):
     every += [('%s of %s: %s' % (it.name, it.kind, way[0]), partial(see_misread_way, it, way, cvr)) for it in cases for way in it.ways]
     every += [('%s of %s: %s' % (it.name, it.kind, way and way[0]), partial(see_twice, it, cvr, way)) for it in misread_ess.all_twice() for way in (None, *it.ways)]
     every += [('signal %d' % number, partial(see_stopped, cvr, number)) for number in (signal.SIGINT, signal.SIGTERM)]
+    every += [('windows: %s' % (way and way.name), partial(see_windows, way)) for way in (None, *wrong_ways.WINDOWS)]
     return [('examples', see_examples), *every, *tenth.chosen(words.tenth, few, itemgetter(0))]
 
 

@@ -54,7 +54,7 @@ ESS = of('ess', [
     ('reads_one_column_of_a_contest', 'gather_ess.py', 'tuple(cells[it] for it in places)', 'tuple(cells[it] for it in places[:1])'),
     ('takes_undervotes_for_a_choice', 'gather_ess_columns.py', 'chosen = [it for it in words if it not in (UNDERVOTE, OVERVOTE)]', 'chosen = [it for it in words if it != OVERVOTE]'),
     ('leaves_out_overvoted_contests', 'gather_ess.py', '[it for it in texts if it]', "[it for it in texts if it and 'overvoted' not in it]"),
-    ('leaves_out_blank_contests', 'gather_ess_columns.py', "if set(cells) == {''}:", "if set(cells) <= {'', UNDERVOTE}:"),
+    ('leaves_out_blank_contests', 'gather_ess_columns.py', "if set(words) == {''}:", "if set(words) <= {'', UNDERVOTE}:"),
     ('cuts_the_number', 'gather_ess.py', '(DEVICE, held[NUMBER]), header', '(DEVICE, held[NUMBER][-1:]), header'),
     ('knows_words_in_small_letters_alone', 'gather_words.py', 'small = cell.lower()', 'small = cell'),
     ('knows_no_write_ins', 'gather_writein.py', 'return WORD.search(name) is not None', 'return False'),
@@ -121,6 +121,14 @@ VXSUITE = of('vxsuite', REPORTS + [
 CDF = of('cdf', REPORTS + [
     ('reads_the_first_file_alone', 'gather_cdf.py', '    for source in filter(fits, sources):', '    for source in list(filter(fits, sources))[:1]:'),
     ('forgets_the_first_record', 'gather_cdf.py', '            out.add(', '            if number: out.add('),
+])
+# Slips that the documents of windows.py find.
+WINDOWS = of('windows', [
+    ('takes_a_number_that_goes_on', 'gather_json.py', 'end + UNSURE <= len(self.text)', 'end <= len(self.text)'),
+    ('takes_a_word_that_goes_on_for_damage', 'gather_json.py', ' or wrong.pos + UNSURE > len(wrong.doc)', ' or wrong.pos >= len(wrong.doc)'),
+    ('takes_a_text_that_goes_on_for_damage', 'gather_json.py', "wrong.msg.startswith('Unterminated') or ", ''),
+    ('loses_a_sign', 'gather_json.py', 'held, size = [self.text[self.place:]]', 'held, size = [self.text[self.place + 1:]]'),
+    ('takes_what_follows_for_nothing', 'gather_json.py', '        window.take(end_at)\n', ''),
 ])
 WAYS = DOMINION + DOMINION_JSON + ESS + HART + CLEARBALLOT + VXSUITE + CDF
 # Slips that take out the rule of a case of planted.py, whose name stands in the place of a kind.
