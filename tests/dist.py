@@ -5,7 +5,7 @@ Looks at dist/, the release that stands in the repository. SHA256SUMS has the su
 PROVENANCE names the newest release in CHANGELOG.md, and has the sums of the page, of the module in it, and of the programs
 and libraries in the archives and wheels; it stands in each of these, too. The program for this system says the version.
 The page starts in Chromium or in Firefox, where one of them is installed: so it has tallied the county that it carries,
-and found the text that has to come.
+and found the text that has to come. Each signature beside PROVENANCE is one of it.
 
 Then `./cvr` is tried with releases of stand-ins (dist_ways.py), and so is this test, on some in which a part is changed.
 
@@ -21,6 +21,7 @@ import gzip
 import io
 import os
 import re
+import shutil
 import subprocess
 import sys
 import tarfile
@@ -41,6 +42,7 @@ from trial import SETTLED   # noqa: E402 (it stands in tests/audit)
 
 VERSION = TOOL['VERSION']
 HERE_TARGET = '%s-%s' % (os.uname().sysname.lower(), os.uname().machine)
+SIGNED = TOLD + '.builder.sig'
 FAULTS = EOFError, OSError, ValueError, tarfile.TarError, zipfile.BadZipFile, zlib.error
 
 
@@ -69,9 +71,21 @@ def one(its, pattern):
     return its[found[0]] if len(found) == 1 else b''
 
 
+def is_signature(folder, name):
+    """Whether a file is somebody's signature of PROVENANCE as it stands there."""
+    with open(os.path.join(folder, TOLD), 'rb') as told:
+        words = ['ssh-keygen', '-Y', 'check-novalidate', '-n', 'cvr', '-s', os.path.join(folder, name)]
+        return subprocess.run(words, stdin=told, stdout=subprocess.DEVNULL, stderr=subprocess.DEVNULL).returncode == 0
+
+
 def faults(folder, version=VERSION):
     """Yields what is wrong with the files of a folder: first a word, then why."""
     texts = {it: held(os.path.join(folder, it)) for it in os.listdir(folder)}
+    signatures = fnmatch.filter(texts, TOLD + '*.sig')
+    for name in signatures:
+        del texts[name]
+        if shutil.which('ssh-keygen') and not is_signature(folder, name):
+            yield '%s: no signature of this PROVENANCE' % name
     if texts.pop(SUMS, b'').decode('utf-8', 'replace') != TOOL['listed'](texts):
         yield '%s: other sums, or other files' % SUMS
     names = {named(archive, version) for archive, _ in PLACES.values()}
@@ -144,6 +158,20 @@ def add(folder):
     list_files(folder)
 
 
+def sign(folder):
+    if shutil.which('ssh-keygen'):
+        key = os.path.join(os.path.dirname(folder), 'key')
+        if not os.path.exists(key):
+            subprocess.run(['ssh-keygen', '-q', '-t', 'ed25519', '-N', '', '-f', key], check=True)
+        subprocess.run(['ssh-keygen', '-q', '-Y', 'sign', '-f', key, '-n', 'cvr', os.path.join(folder, TOLD)], check=True, stderr=subprocess.DEVNULL)
+        os.rename(os.path.join(folder, TOLD + '.sig'), os.path.join(folder, SIGNED))
+
+
+def sign_another(folder):
+    sign(folder)
+    change(TOLD, b'To check')(folder)
+
+
 # What is changed in a release, or told of it, and the first words of what is found.
 CHANGES = [
     (change(PAGE, b'</html'), {}, {SUMS, 'page'}),
@@ -153,6 +181,8 @@ CHANGES = [
     (change('cvr-%s-linux-x86_64.tar.gz' % NAMED, b'\x1f\x8b'), {}, {SUMS, 'linux-x86_64', 'inside'}),
     (remove, {}, {'files'}),
     (add, {}, {'files'}),
+    (sign, {}, set()),
+    (sign_another, {}, {SUMS, 'inside', *[SIGNED] * bool(shutil.which('ssh-keygen'))}),
     *((lambda folder: None, {it: 'another'}, {it}) for it in ('version', 'page', *map(called, PLACES))),
 ]
 
