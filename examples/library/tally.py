@@ -7,7 +7,7 @@ import cvr
 try:
     rows = cvr.tally(sys.argv[1], sys.argv[2:])
 except cvr.Fault as fault:
-    sys.exit('%s is refused by %s at %s' % (fault.file, fault.code, fault.path))
+    sys.exit('%s\n%s' % (fault, fault.words))
 for row in rows:
     votes = [part for selection, votes in row.votes.items() for part in (json.dumps(selection), votes)]
     print(json.dumps(row.contest), json.dumps(row.unit), json.dumps(row.batch), *row.numbers, *votes)

@@ -2,6 +2,7 @@
 import ctypes
 import ctypes.util
 import os
+import threading
 from typing import Callable, Iterable, List, NamedTuple, Tuple
 
 HERE = os.path.dirname(os.path.abspath(__file__))
@@ -75,7 +76,59 @@ def load() -> ctypes.CDLL:
 LIBRARY = load()
 
 
-def ends_of(pieces: List[bytes]) -> ctypes.Array:
+class Home:
+    """The offices of a thread, which alone calls them: those that were joined share facts, by counts that are not made for
+    several threads. One that another thread drops is handed back, and freed at the next call of its own thread or when
+    that ends; of a thread that has ended, whoever drops an office frees it, one at a time."""
+    _free, _turn = staticmethod(LIBRARY.cvr_office_free), threading.RLock()     # held here, since names go first at exit
+
+    def __init__(self) -> None:
+        self._dropped: List[Handle] = []
+        self._has_ended = False
+
+    def drop(self, handle: Handle) -> None:
+        """Takes an office that nothing uses any more. It is handed over first: else a thread that ends would miss it."""
+        self._dropped.append(handle)
+        if self._has_ended or getattr(THREAD, 'home', None) is self:
+            self.free()
+
+    def free(self) -> None:
+        """Frees what was handed back."""
+        if self._dropped:
+            with self._turn:        # by all homes, and once more by whoever has it, since any line may collect an office
+                while self._dropped:
+                    self._free(self._dropped.pop())
+
+    def end(self) -> None:
+        """Frees what was handed back when the thread ends."""
+        self._has_ended = True
+        self.free()
+
+
+class End:
+    """What only the variables of a thread hold, so that it goes when the thread ends."""
+
+    def __init__(self, home: Home):
+        self._home = home
+
+    def __del__(self) -> None:
+        self._home.end()
+
+
+THREAD = threading.local()
+
+
+def home() -> Home:
+    """That of this thread. What was handed back to it is freed."""
+    if not hasattr(THREAD, 'home'):
+        THREAD.home = Home()
+        THREAD.end = End(THREAD.home)
+    found: Home = THREAD.home
+    found.free()
+    return found
+
+
+def ends_of(pieces: List[bytes]) -> 'ctypes.Array[ctypes.c_size_t]':
     """Where each piece ends in the input, with one number more, so that there is a place even for no pieces."""
     ends, end = (ctypes.c_size_t * (len(pieces) + 1))(), 0
     for place, piece in enumerate(pieces):

@@ -2,17 +2,20 @@
 """run.py [--dist] [--tenth WORD]
 
 Tries the library for Linux that tools/targets makes, or with --dist that of the release (dist_files.py), whose shared
-form is linked then: calls.c and offices.c, which call it from C; the package for Python, also as a wheel (wheel.py); the
-commands in docs/LIBRARY.md, which show an example in each language; and the rows of tests/rows, with --tenth a tenth of
-them, through driver.c, which is the command line of the program over the library. Rows that it can't answer as the
-program does stand in elsewhere.txt, each with the reason: one that is answered rightly all the same is wrong, and so is
-one that is no row.
+form is linked then: calls.c and offices.c, which call it from C; the package for Python (package.py), also as a wheel
+(wheel.py), and with slips (slips.py), each of which has to be found; its types, by `mypy`, and its columns, by pandas,
+where these are; the commands in docs/LIBRARY.md, which show an example in each language; and the rows of tests/rows,
+through the package (package_rows.py) and through driver.c, which is the command line of the program over the library.
+With --tenth it tries a tenth of the rows and slips. Rows that driver.c can't answer as the program does stand in
+elsewhere.txt, each with the reason: one that is answered rightly all the same is wrong, and so is one that is no row.
 
 Without a C compiler, `cc`, it only tries the package for Python. The last line is `library: N right, M wrong`; the status
 is 0 only where M is 0."""
 import argparse
 import os
+import re
 import shutil
+import subprocess
 import sys
 import tempfile
 from functools import partial
@@ -23,10 +26,20 @@ TOP = os.path.dirname(os.path.dirname(HERE))
 sys.path.insert(0, os.path.join(TOP, 'tests'))
 import commands     # noqa: E402
 import dist_files   # noqa: E402
+import slips        # noqa: E402 (it stands beside this file)
 import tenth        # noqa: E402
-import trials       # noqa: E402 (all stand there)
+import trials       # noqa: E402 (the others stand there)
 
 FLAGS = ['cc', '-std=c11', '-O1', '-Wall', '-Wextra', '-Werror', '-pthread']
+PYTHONS = sys.executable, '/usr/bin/python3'        # which may have pandas
+FRAMES = '''
+import pandas, cvr
+rows = cvr.tally('definition.json', ['scan.json', 'adjudicated.json'])
+table, votes = pandas.DataFrame(cvr.columns(rows)), pandas.DataFrame(cvr.vote_columns(rows))
+assert len(table) == len(rows) and table.ballots.sum() == sum(it.ballots for it in rows) > 0
+assert table[table.batch == 'batch-1'].ballots.tolist() == [it.ballots for it in rows if it.batch == 'batch-1'] != []
+assert votes.groupby('selection').votes.sum()['parks-yes'] == sum(it.votes.get('parks-yes', 0) for it in rows) > 0
+'''
 
 
 def complete(library):
@@ -47,10 +60,48 @@ def examples_fault(folder, library):
     return None if right and not wrong else '%d commands in docs/LIBRARY.md are wrong' % wrong
 
 
+def silent_fault(command, **more):
+    """What a command prints whose status isn't 0, or None."""
+    status, told = trials.printed(command, **more)
+    return told or 'status %d' % status if status else None
+
+
+def slip_fault(way, folder, env):
+    """What is wrong with a slip of the package, which package.py has to find, or None."""
+    copy = shutil.copytree(os.path.join(TOP, 'python'), os.path.join(folder, way.name))
+    path = os.path.join(copy, 'cvr', way.file)
+    with open(path, encoding='utf-8') as file:
+        text = file.read()
+    if text.count(way.old) != 1:
+        return 'the slip %s stands %d times, not once' % (way.name, text.count(way.old))
+    with open(path, 'w', encoding='utf-8') as file:
+        file.write(text.replace(way.old, way.new))
+    status, told = trials.printed([sys.executable, HERE + '/package.py', copy], env=env)
+    return None if status == 1 and re.search(r'\npython: \d+ right, [1-9]\d* wrong\n$', told) else 'the slip %s is not found: %s' % (way.name, told)
+
+
+def package_trials(folder, shared, word):
+    """Yields those of the package for Python, over a library."""
+    env = dict(os.environ, LIBCVR=shared, PYTHONPATH=TOP + '/python', PYTHONDONTWRITEBYTECODE='1')
+    yield partial(trials.told_fault, 'python', [sys.executable, HERE + '/package.py'], env=env)
+    yield partial(trials.told_fault, 'python rows', [sys.executable, HERE + '/package_rows.py', word], env=env)
+    for way in tenth.chosen(word, slips.WAYS, lambda it: it.name):
+        yield partial(slip_fault, way, folder, env)
+    if shutil.which('mypy'):
+        yield partial(silent_fault, ['mypy', '--strict', '--cache-dir=' + os.devnull, TOP + '/python/cvr'])
+    else:
+        tenth.leave_out('the types of the package for Python', 'there is no mypy')
+    python = next((it for it in PYTHONS if shutil.which(it) and not subprocess.call([it, '-c', 'import pandas'], stderr=subprocess.DEVNULL)), None)
+    if python:
+        yield partial(silent_fault, [python, '-c', FRAMES], env=env)
+    else:
+        tenth.leave_out('columns of the package for Python', 'there is no pandas')
+
+
 def all_trials(folder, library, word):
     """Yields the trials of the library in a folder."""
     shared = os.path.join(library, 'libcvr.so')
-    yield partial(trials.told_fault, 'python', [sys.executable, HERE + '/package.py'], env=dict(os.environ, LIBCVR=shared))
+    yield from package_trials(folder, shared, word)
     if not shutil.which('cc'):
         tenth.leave_out('calls of the library from C, and its wheel', 'there is no C compiler, cc')
         return

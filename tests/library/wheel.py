@@ -6,6 +6,7 @@ and that it is the same bytes twice. One for Linux is also installed into a new 
 a network, and package.py is run over it there; where Python has no `venv` or no `pip`, that is left out and said. That for
 Windows isn't installed anywhere. The last line is `wheel: N right, M wrong`."""
 import base64
+import email
 import hashlib
 import os
 import re
@@ -51,6 +52,10 @@ def of_files(path, library):
     yield 'its name has the tag of the library', path.endswith('-py3-none-%s.whl' % tag)
     yield 'so has WHEEL', texts[about + 'WHEEL'].endswith(b'\nRoot-Is-Purelib: false\nTag: py3-none-%s\n' % tag.encode())
     yield 'METADATA names it', texts[about + 'METADATA'].startswith(b'Metadata-Version: 2.1\nName: cvr\nVersion: ')
+    told = email.message_from_bytes(texts[about + 'METADATA'])
+    yield 'and says for which Python', told['Requires-Python'] == '>=3.8' and 'Programming Language :: Python :: 3 :: Only' in told.get_all('Classifier')
+    yield 'and for which system', ('Operating System :: Microsoft :: Windows' in told.get_all('Classifier')) == library.endswith('.dll')
+    yield 'and has a description', told['Description-Content-Type'] == 'text/markdown' and '    import cvr\n' in told.get_payload()
     yield 'it has the library', texts['cvr/' + os.path.basename(library)] == held(library)
     package = os.path.join(TOP, 'python/cvr')
     for name in os.listdir(package):
@@ -70,6 +75,8 @@ def of_package(path, folder):
     python = os.path.join(place, 'bin/python')
     status, told = printed(python, '-m', 'pip', 'install', '--no-index', path)
     yield 'pip installs it: ' + told[-400:], status == 0
+    version = 'import cvr, importlib.metadata as its; print(its.version("cvr") == cvr.__version__)'
+    yield 'it has the version of its library', printed(python, '-I', '-c', version) == (0, 'True\n')
     status, told = printed(python, '-I', os.path.join(HERE, 'package.py'), '--installed')
     yield 'the package that is installed: ' + told, status == 0 and re.fullmatch(r'python: [1-9]\d* right, 0 wrong\n', told) is not None
 
