@@ -1,16 +1,18 @@
 #!/usr/bin/env python3
 """hostile.py [--cvr PATH] [--size 300000] [--keep NAME] [SHAPE ..]
 
-Measures what the author of a file can make each command of `cvr-audit` cost: the county of examples/county, with one text
-that is long, one list that is long, a member that no table has, or two files that contradict each other, each of some
-`size` bytes. Of each command it prints the most memory and the most processor time for a byte of the files, beside what
-the county alone takes, and the shape that took it. The memory is the peak of `cvr-audit`, or of a `cvr` that it runs. With
-names of shapes it measures these alone, and prints each command. With --keep the figures are appended to runs/DATE-NAME.md.
-The status is 1 where a command is killed, or has a fault of its own."""
+Measures what the author of a file can make each command of `cvr-audit`, and the page of dist/ in Chromium, cost: the
+county of examples/county, with one text that is long, one list that is long, a member that no table has, or two files
+that contradict each other, each of some `size` bytes. Of each command it prints the most memory and the most processor
+time for a byte of the files, beside what the county alone takes, and the shape that took it. The memory is the peak of
+`cvr-audit`, or of a `cvr` that it runs. With names of shapes it measures these alone, and prints each command. With
+--keep the figures are appended to runs/DATE-NAME.md. The status is 1 where a command is killed, or has a fault of its
+own."""
 import argparse
 import copy
 import json
 import os
+import re
 import resource
 import subprocess
 import sys
@@ -18,7 +20,12 @@ import tempfile
 
 from bench import TOP, Report, commit, keep, machine
 
+sys.path[:0] = [os.path.join(TOP, 'tests', 'web'), os.path.join(TOP, 'tests', 'audit')]
+import chromium     # noqa: E402
+from trial import SETTLED, tallied      # noqa: E402 (these stand in tests/web)
+
 COUNTY = os.path.join(TOP, 'examples', 'county')
+PAGE = 'cvr.html'
 SECONDS, MEMORY = 300, 6 << 30      # that a command may take
 COMMANDS = {
     'records': ['records', 'DEF', 'FILES'], 'records --columns ranks': ['records', 'DEF', '--columns', 'ranks', 'FILES'],
@@ -175,10 +182,40 @@ def run(words, folder, cvr):
     return (usage.ru_utime + usage.ru_stime, usage.ru_maxrss << 10) if is_well else (child.returncode, text.strip()[-200:])
 
 
+def renderers(browser):
+    """(processor seconds, greatest bytes of memory) of each process of a browser that shows pages."""
+    for name in filter(str.isdigit, os.listdir('/proc')):
+        try:
+            words, stat, status = (open('/proc/%s/%s' % (name, it), encoding='utf-8').read() for it in ('cmdline', 'stat', 'status'))
+        except OSError:         # it ended
+            continue
+        held = stat.rpartition(')')[2].split()      # from the third on
+        if '--type=renderer' in words and int(held[3]) == browser.process.pid:
+            yield sum(map(int, held[11:13])) / os.sysconf('SC_CLK_TCK'), int(re.search(r'VmHWM:\s+(\d+)', status).group(1)) << 10
+
+
+def shown(folder, names):
+    """The same of dist/cvr.html in Chromium, which tallies files; or its words where it doesn't end."""
+    with tempfile.TemporaryDirectory() as room:
+        browser = chromium.Browser(room)
+        try:
+            browser.open(os.path.join(TOP, 'dist', 'cvr.html'))
+            browser.value(SETTLED)
+            said = tallied(browser, folder, names)
+            seconds, room = map(max, zip(*renderers(browser)))
+        except OSError as fault:
+            return 'page', str(fault)
+        finally:
+            browser.end()
+    return (seconds, room) if 'memory' not in said else ('page', said)
+
+
 def figures(name, shape, size, cvr):
     """Of each command the seconds and bytes of memory over a shape, and the bytes of its files."""
     with tempfile.TemporaryDirectory() as folder:
         names, length = laid(folder, shape, size)
+        if chromium.program():
+            yield PAGE, length, shown(folder, names)
         given = {'DEF': names[:1], 'FILES': names[1:], 'OUT': ['out']}
         for command, words in COMMANDS.items():
             yield command, length, run([part for it in words for part in given.get(it, [it])], folder, cvr)
@@ -188,7 +225,7 @@ def worst(report, found, alone):
     """A table: of each command the shape with the most memory for a byte, and that with the most time."""
     report.say('| | bytes of memory for a byte | | nanoseconds for a byte | |')
     report.say('|---|---|---|---|---|')
-    for command in COMMANDS:
+    for command in alone:
         least_seconds, least_bytes = alone[command]
         held = [(name, length, its) for name, length, its in found[command] if isinstance(its[1], int)]
         room = max(held, key=lambda it: (it[2][1] - least_bytes) / it[1])
@@ -204,8 +241,9 @@ def main():
     words.add_argument('--keep')
     words.add_argument('shapes', nargs='*')
     words = words.parse_args()
-    report, failed, found = Report(), 0, {command: [] for command in COMMANDS}
+    report, failed = Report(), 0
     alone = {command: its for command, _, its in figures('alone', lambda held, _: [held], 0, words.cvr)}
+    found = {command: [] for command in alone}
     report.say('%s, %s; %d shapes of %d bytes' % (machine(), commit(), len(words.shapes or SHAPES), words.size))
     report.say()
     for name in words.shapes or SHAPES:
