@@ -307,7 +307,7 @@ for package in 'cvr_audit', 'cvr':
         for value in vars(it).values():
             name = value.__name__ if isinstance(value, types.ModuleType) else getattr(value, '__module__', None) or ''
             found.add(name.lstrip('_').split('.')[0])
-print(' '.join(sorted(found - {'', 'cvr', 'cvr_audit', 'builtins', 'frozen_importlib', 'frozen_importlib_external'})))'''
+print(' '.join(sorted(found - {'', 'cvr', 'cvr_audit', 'builtins', 'frozen_importlib', 'frozen_importlib_external', 'thread'})))'''
 
 
 def commands_of(copy):

@@ -2,7 +2,8 @@
 """start.py
 
 Does what README's Start says, in this checkout, as somebody new would: `./cvr`, then `./test`, `./cvr` again, `./prove`,
-and `./cvr` once more, which has to print the same tally each time, and to build nothing after the first. Then the other
+and `./cvr` once more, which has to print the same tally each time, and to build nothing after the first; and `git status`
+has to see the checkout as it was. Then the other
 order in a clone of its own, without a release, over what is proved by then: `./test` with some of its parts, `./cvr`,
 `rt ci`, `./cvr`, `./test`. In that clone `rt ci` also has to stop at each kind of file at which `./test` says that it
 does, and the program has to run all the same.
@@ -100,13 +101,19 @@ def is_of_readme(text):
     return len(shown) == 3 and set(shown) <= set(text.splitlines())
 
 
+def seen(top):
+    """What git sees in a checkout."""
+    return subprocess.run(['git', 'status', '--porcelain'], cwd=top, stdout=subprocess.PIPE, check=True).stdout
+
+
 def main():
-    start = Start()
+    start, before = Start(), seen(TOP)
     start.first(TOP, is_built=False)
     start.run(TOP, './test')
     start.first(TOP)
     start.run(TOP, './prove')
     start.first(TOP)
+    start.see('git sees the checkout as it was', seen(TOP) == before)
     with tempfile.TemporaryDirectory(prefix='start-') as room:
         start.other_order(room + '/a clone')
     print('start: %d right, %d wrong' % (start.right, start.wrong))

@@ -10,6 +10,7 @@ import json
 import random
 import sys
 
+sys.dont_write_bytecode = True      # beside the companion
 TRIES = 4000
 WORDS = ['true', 'false', 'null', '0', '-0', '17', '-2.5', '1e5', '1E+10', '3.25e-7', '123456789012345678901234567890', '""', '"a\\n\\"b\\\\"',
          '"\\ud83d\\ude00"', '"é😀"', '"]}, {["', '[]', '{}']
