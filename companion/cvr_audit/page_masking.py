@@ -4,9 +4,9 @@ contests and units are looked at together. docs/PAGE.md has the rule and its rea
 A contest is its numbers by unit: the ballots, then the votes of each selection. Where a ballot may have
 several votes, the ballots without a vote for a selection count as its votes do: a reader knows that no
 selection has more votes than there are ballots, so that few without one lead to its votes."""
+import math
 from collections import namedtuple
 from itertools import accumulate
-from math import inf
 
 LEAST = 10          # the least number that may be shown, or follow
 EACH = 20           # a selection with fewer votes a unit is shown by unit of no unit
@@ -107,7 +107,7 @@ def limits(rows, kinds):
     may still be less than that one. Where their other sides are small, too, nothing is known to be enough."""
     is_known = all(it >= LEAST for sides in rows for it in sides[1:])
     for count, (following, kind) in enumerate(zip(rows[1:], kinds[1:]), 1):
-        yield (count - 1) * (following[0] - 1) * is_known if kind == kinds[0] else inf
+        yield (count - 1) * (following[0] - 1) * is_known if kind == kinds[0] else math.inf
 
 
 def selections_withheld(sums, write_ins, is_loose):
