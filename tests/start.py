@@ -1,12 +1,11 @@
 #!/usr/bin/env python3
 """start.py
 
-Does what README's Start says, in this checkout, as somebody new would: `./cvr`, then `./test`, `./cvr` again, `./prove`,
-and `./cvr` once more, which has to print the same tally each time, and to build nothing after the first; and `git status`
-has to see the checkout as it was. Then the other
-order in a clone of its own, without a release, over what is proved by then: `./test` with some of its parts, `./cvr`,
-`rt ci`, `./cvr`, `./test`. In that clone `rt ci` also has to stop at each kind of file at which `./test` says that it
-does, and the program has to run all the same.
+Does what README's Start says, in this checkout, as somebody new would: `./cvr`, then `./test`, `./cvr` again,
+`./prove`, and `./cvr` once more, which has to print the same tally each time, and to build nothing after the first; and
+`git status` has to see the checkout as it was. Then the other order in a clone of its own, without a release, over what
+is proved by then: `./test` with some of its parts, `./cvr`, `rt ci`, `./cvr`, `./test`. In that clone `rt ci` also has
+to stop at each kind of file at which `./test` says that it does, and the program has to run all the same.
 
 The last lines are `start: N right, M wrong`, which speaks of these calls alone, and the sum with what `./test` and
 `./prove` counted, `N passed, M failed`. The status is 0 only where M is 0 and N is not."""
