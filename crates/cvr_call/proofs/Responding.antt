@@ -1,5 +1,6 @@
 -- From the clauses of `respond` over two sinks in memory to an answer.
-use Rattle.std.proofs.Common.{◌≡◌, ◌∙◌, ℕ, List, [], Some, false, ap, inl, inr, subst}
+use Rattle.std.proofs.Common.{◌≡◌, ◌∙◌, ◌++◌, ℕ, Bool, List, [], Some, false, ap, inl, inr}
+use Rattle.std.proofs.Common.{subst, sym}
 use Rattle.cdf_types.specs.MemorySink.{SinkState}
 use Rattle.cvr_words.specs.declared.fault.LoggedFault.{LoggedFault}
 use Rattle.cvr_words.specs.declared.request.Request.{Request}
@@ -11,7 +12,8 @@ use Rattle.cvr_run.specs.Listed.{AnswersListed, ListedRequest}
 use Rattle.cvr_run.specs.Opening.{At, SaysTheSame}
 use Rattle.cvr_call.specs.Given.{File, Given, opener_over}
 use Rattle.cvr_run.specs.Responds.{Responds}
-use Rattle.cvr_call.specs.Responds.{IsAnswer, devices_with}
+use Rattle.cvr_run.specs.OwnWords.{version_text}
+use Rattle.cvr_call.specs.Responds.{Did, IsAnswer, VersionCut, devices_with, holding}
 
 -- ---- what follows from an unchanged output
 
@@ -85,31 +87,34 @@ same_opener : (files more : List File) → SaysTheSame (opener_over files) (open
 same_opener files more says =
     ap (λ (at : List ℕ → At). record (opener_over files) { at = at }) says.at
 
--- a sink that has taken this, and hasn't failed
-pub record Took (sink : SinkState) (bytes : List ℕ) : Type 0 where
-  pub taken : sink.taken ≡ bytes
+-- a sink that has taken nothing, and hasn't failed
+pub record IsFresh (sink : SinkState) : Type 0 where
+  pub taken : sink.taken ≡ []
   pub working : sink.has_failed ≡ false
 
-is_with : (files : List File) (out log : SinkState) (text lines : List ℕ) → Took out text
-    → Took log lines → devices_of files out log ≡ devices_with files text lines
-is_with files out log text lines took took_log = cc
+fresh_devices : (files : List File) (out log : SinkState) → IsFresh out → IsFresh log
+    → devices_of files out log ≡ devices_with files (holding [] false) (holding [] false)
+fresh_devices files out log fresh fresh_log = cc
 
--- what was answered over empty sinks, none of which failed
-pub answered : (given : Given) (words : List (List ℕ)) (files more : List File) (status : Status)
-    (out log out' log' : SinkState) → words ≡ given.words → files ≡ given.files → Took out []
-    → Took log [] → out'.has_failed ≡ false → log'.has_failed ≡ false
+-- what was done over fresh sinks
+pub done_over : (given : Given) (words : List (List ℕ)) (files more : List File) (status : Status)
+    (out log out' log' : SinkState) → words ≡ given.words → files ≡ given.files → IsFresh out
+    → IsFresh log
     → Responds words status (devices_of files out log) (devices_of more out' log') (out' ≡ out)
-    → IsAnswer given (record { status = status; text = out'.taken; log = log'.taken })
-answered given words files more status out log out' log' same_words same_files took took_log
-    works log_works did =
-    let before : devices_of files out log ≡ devices_with given.files [] [] =
-    is_with files out log [] [] took took_log
-    ∙ ap (λ (fs : List File). devices_with fs [] []) same_files in
+    → Did given status (holding out'.taken out'.has_failed) (holding log'.taken log'.has_failed)
+    (out'.taken ≡ [])
+done_over given words files more status out log out' log' same_words same_files fresh fresh_log
+    did =
+    let none = holding [] false in
+    let before : devices_of files out log ≡ devices_with given.files none none =
+    fresh_devices files out log fresh fresh_log
+    ∙ ap (λ (fs : List File). devices_with fs none none) same_files in
     let opener : opener_over more ≡ opener_over given.files =
     same_opener files more did.says ∙ ap opener_over same_files in
-    let after : devices_of more out' log' ≡ devices_with given.files out'.taken log'.taken = cc in
-    let begun = devices_with given.files [] [] in
-    let ended = devices_with given.files out'.taken log'.taken in
+    let begun = devices_with given.files none none in
+    let ended = devices_with given.files (holding out'.taken out'.has_failed)
+    (holding log'.taken log'.has_failed) in
+    let after : devices_of more out' log' ≡ ended = cc in
     let one : Responds words status begun (devices_of more out' log') (out' ≡ out) =
     subst (λ old. Responds words status old (devices_of more out' log') (out' ≡ out)) before did in
     let two : Responds words status begun ended (out' ≡ out) =
@@ -117,4 +122,22 @@ answered given words files more status out log out' log' same_words same_files t
     let three : Responds given.words status begun ended (out' ≡ out) =
     subst (λ ws. Responds ws status begun ended (out' ≡ out)) same_words two in
     responds given.words status begun ended
-    (λ (same : out' ≡ out). ap (λ (s : SinkState). s.taken) same ∙ took.taken) three
+    (λ (same : out' ≡ out). ap (λ (s : SinkState). s.taken) same ∙ fresh.taken) three
+
+-- it is the answer, where neither failed
+pub answered : (given : Given) (status : Status) (text log : List ℕ) (text_failed log_failed : Bool)
+    → text_failed ≡ false → log_failed ≡ false
+    → Did given status (holding text text_failed) (holding log log_failed) (text ≡ [])
+    → IsAnswer given (record { status = status; text = text; log = log })
+answered given status text log text_failed log_failed works log_works did =
+    subst (λ f. Did given status (holding text false) (holding log f) (text ≡ [])) log_works
+    (subst (λ f. Did given status (holding text f) (holding log log_failed) (text ≡ [])) works did)
+
+-- what was printed of the version before memory ran out is how it begins
+pub version_cut : VersionCut
+version_cut given asks text log (inl none) =
+    (version_text, ap (λ (printed : List ℕ). printed ++ version_text) none.0)
+version_cut given asks text log (inr begun) =
+    let cut = (begun.did.version asks).prefix in
+    let same : text ≡ cut.0 = cc (cut.3) in
+    (cut.1, ap (λ (printed : List ℕ). printed ++ cut.1) same ∙ sym cut.2)

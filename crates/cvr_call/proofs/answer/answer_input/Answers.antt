@@ -5,7 +5,7 @@ use Rattle.std.proofs.lemmas.Result.{err_from_is_err_and}
 use Rattle.cvr_call.specs.Given.{files_in}
 use Rattle.cvr_call.proofs.Giving.{are_split, bytes_give_none, input_gives, odd_gives_none, shown}
 use Rattle.cvr_call.proofs.Giving.{split_files, split_gives, split_words}
-use Rattle.cvr_call.proofs.Responding.{answered}
+use Rattle.cvr_call.proofs.Responding.{answered, done_over}
 use Rattle.cvr_call.proofs.answer.answer_input.Goals as goal
 
 pub returns-then-files-ne0-clause-none : goal.returns-then-files-ne0-clause-none
@@ -35,7 +35,10 @@ returns-clause-answered c given is =
     let gives = input_gives _ _ pieces _ given c.in_ok-pieces.ensures.only is in
     let words = split_words pieces _ c.in-Some.words.now c.in-Some.files.now given split gives in
     let files = split_files pieces _ c.in-Some.words.now c.in-Some.files.now given split gives in
-    answered given (map string_bytes c.as_slice-2.result.now)
+    answered given c.answer-status.result c.answer-status.new.out.taken
+    c.answer-status.new.log.taken c.answer-status.new.out.has_failed
+    c.answer-status.new.log.has_failed (sym c.failed.ensures ∙ c.if-failed.false)
+    (sym c.failed-else-failed.ensures ∙ c.if-failed-2.false) (done_over given (map string_bytes c.as_slice-2.result.now)
     (files_in (shown c.in_ok-files.files.pieces.now))
     (files_in (shown c.answer-status.new.files.pieces.now))
     c.answer-status.result c.args.out.now c.args.log.now c.answer-status.new.out
@@ -44,8 +47,7 @@ returns-clause-answered c given is =
     (ap (λ fs. files_in (shown fs)) c.in_ok-files.ensures ∙ files)
     (record { taken = c.requires.empty; working = c.requires.working })
     (record { taken = c.requires.log_empty; working = c.requires.log_working })
-    (sym c.failed.ensures ∙ c.if-failed.false)
-    (sym c.failed-else-failed.ensures ∙ c.if-failed-2.false) c.answer-status.ensures
+    c.answer-status.ensures)
 
 pub returns-clause-some : goal.returns-clause-some
 returns-clause-some c =
