@@ -1,11 +1,15 @@
 # Installs the program that ./cvr runs, and packs the one that was built here. Of what is installed you can set PREFIX,
-# DESTDIR, CVR (another program), PAGE (another page for a browser, or none) and ZSH.
+# DESTDIR, LIBDIR, CVR (another program), PAGE (another page for a browser, or none), LIBRARY (the folder of another library
+# for C, as tools/library makes it, or none) and ZSH.
 PREFIX = /usr/local
 DESTDIR =
+LIBDIR = $(PREFIX)/lib
 CVR = $(shell tools/program)
 PAGE = $(wildcard dist/cvr.html)
+LIBRARY = $(shell tools/program library)
 ZSH = $(PREFIX)/share/zsh/site-functions
 SHARE = $(DESTDIR)$(PREFIX)/share
+LIBS = $(DESTDIR)$(LIBDIR)
 DOCUMENTS = README.md CHANGELOG.md LICENSE SECURITY.md examples/README.md docs/reference/README.md \
 	$(wildcard docs/*.* examples/*/*.* examples/exports/*/*.* examples/exports/*/*/*.*)
 # What the repository alone has: of a link to it, an installed document has the text.
@@ -15,7 +19,7 @@ ALONE = CONTRIBUTING\.md|(bench|crates|dist|library|man|python|tests|web)/
 copied = for file in $(DOCUMENTS); do install -D -m 644 "$$file" "$(1)/$$file" || exit; done && tools/reference "$(1)" && \
 	cd "$(1)" && sed -zEi 's:\[([^][]*)\]\((\.\./)*($(ALONE))[^)]*\):\1:g' $(filter %.md,$(DOCUMENTS))
 
-.PHONY: all docs install uninstall package release
+.PHONY: all docs install install-library uninstall package release
 
 all:
 	./cvr --help >/dev/null
@@ -38,15 +42,27 @@ install:
 		install -D -m 644 "man/$$name.fish" "$(SHARE)/fish/vendor_completions.d/$$name.fish" || exit; done
 	$(if $(PAGE),install -D -m 644 "$(PAGE)" "$(SHARE)/doc/cvr/cvr.html")
 	$(call copied,$(SHARE)/doc/cvr)
+	library="$(LIBRARY)" && { [ -z "$$library" ] || $(MAKE) -s install-library LIBRARY="$$library"; }
+
+# Without a PREFIX cvr.pc stays as it was made, for any.
+install-library:
+	install -D -m 644 "$(LIBRARY)/cvr.h" "$(DESTDIR)$(PREFIX)/include/cvr.h"
+	install -D -m 644 "$(LIBRARY)/cvr.pc" "$(LIBS)/pkgconfig/cvr.pc"
+	$(if $(PREFIX),sed -i 's|^prefix=.*|prefix=$(PREFIX)|; s|^libdir=.*|libdir=$(LIBDIR)|' "$(LIBS)/pkgconfig/cvr.pc")
+	install -m 644 "$(LIBRARY)/libcvr.a" "$(LIBS)/libcvr.a"
+	version=$$(sed -n 's/^Version: //p' "$(LIBRARY)/cvr.pc") && \
+	install -m 644 "$(LIBRARY)/libcvr.so" "$(LIBS)/libcvr.so.$$version" && \
+	ln -sf "libcvr.so.$$version" "$(LIBS)/libcvr.so.$${version%%.*}" && ln -sf "libcvr.so.$${version%%.*}" "$(LIBS)/libcvr.so"
 
 # Removes what `install` with the same variables puts there, as an install into an empty folder shows; then the folders
 # below PREFIX that are empty, but for those that a system has in /usr/local.
 uninstall:
 	tree=$$(mktemp -d) && trap 'rm -r "$$tree"' EXIT && prefix=$$(realpath -ms "$(DESTDIR)$(PREFIX)") && \
-	$(MAKE) -s install CVR=/dev/null DESTDIR="$$tree" PREFIX="$$prefix" ZSH="$$(realpath -ms "$(DESTDIR)$(ZSH)")" && \
+	$(MAKE) -s install CVR=/dev/null DESTDIR="$$tree" PREFIX="$$prefix" \
+		LIBDIR="$$(realpath -ms "$(LIBS)")" ZSH="$$(realpath -ms "$(DESTDIR)$(ZSH)")" && \
 	cd "$$tree" && find . ! -type d -print0 | (cd / && xargs -0 rm -f) && \
-	find ".$$prefix" -mindepth 1 -depth -type d ! -path './usr/local/bin' ! -path './usr/local/share' \
-		! -path './usr/local/share/man' -print0 | (cd / && xargs -0 rmdir 2>/dev/null || :)
+	find ".$$prefix" -mindepth 1 -depth -type d ! -path './usr/local/bin' ! -path './usr/local/include' \
+		! -path './usr/local/lib' ! -path './usr/local/share' ! -path './usr/local/share/man' -print0 | (cd / && xargs -0 rmdir 2>/dev/null || :)
 
 # What tests/targets.py made and tried of the program that was last built.
 package:

@@ -27,6 +27,14 @@ enum {
     CVR_NO_VOLUME = 11      /* V1: there are fewer volumes */
 };
 
+/* Bytes of stack that suffice for a call: no call needed as much over a file that is as deep as one may be. It is measured
+   and not proved. A thread needs what its own functions take besides; those of musl have half of this if nothing else is said. */
+enum { CVR_LEAST_STACK = 262144 };
+
+/* The version of the library, as "1.3.0"; and what a status means, in a few words. Both texts stay. */
+const char *cvr_version(void);
+const char *cvr_status_text(int status);
+
 /* How many bytes a text and a log have. */
 typedef struct {
     size_t text;
@@ -58,11 +66,10 @@ uint8_t cvr_call(const uint8_t *input, size_t input_len, const size_t *ends, siz
 
    An office collects files beside one definition: it holds facts, each once, whatever the order in which they come. C
    holds a handle, which begins as CVR_NO_HANDLE and has an office from `cvr_office_new` to `cvr_office_free`. In between, C
-   neither writes nor copies what is in the handle, and passes it to one call at a time, on the thread that made the office;
-   `cvr_office_join` takes two different handles. Several threads may have offices of their own. A call on a handle without
-   an office answers CVR_NO_OFFICE, and does nothing. What else is passed is the caller's, as above: no pointer is NULL, and
-   what is written overlaps nothing else. An office keeps no pointer to it. Where memory ran out, the status is
-   CVR_MEMORY. */
+   neither writes nor copies what is in the handle, and passes it to one call at a time, on the thread that made the office.
+   Several threads may have offices of their own. A call on a handle without an office answers CVR_NO_OFFICE, and does
+   nothing. What else is passed is the caller's, as above: no pointer is NULL, and what is written overlaps nothing else. An
+   office keeps no pointer to it. Where memory ran out, the status is CVR_MEMORY. */
 typedef struct {
     void *office;
 } CvrOffice;
@@ -95,8 +102,9 @@ uint8_t cvr_office_new(CvrOffice *office, const uint8_t *definition, size_t defi
 uint8_t cvr_office_import(CvrOffice *office, const uint8_t *file, size_t file_len, CvrReceipt *receipt, uint8_t *path,
                           size_t path_len, CvrRefusal *refusal);
 
-/* Has the office take in what the other holds, which stays as it is. `new_facts` says how many facts were new. Where the
-   definitions differ (devices aside), the status is CVR_OTHER_DEFINITION, and the office stays as it was. */
+/* Has the office take in what the other holds, which stays as it is. `new_facts` says how many facts were new: 0 where both
+   are one handle. Where the definitions differ (devices aside), the status is CVR_OTHER_DEFINITION, and the office stays as
+   it was. */
 uint8_t cvr_office_join(CvrOffice *office, CvrOffice *other, size_t *new_facts);
 
 /* What the commands `tally`, `currents` and `conflicts` print of all that the office holds. The text stands in `text` as
@@ -113,7 +121,8 @@ uint8_t cvr_office_conflicts(CvrOffice *office, uint8_t *text, size_t text_len, 
 uint8_t cvr_office_volume(CvrOffice *office, const uint8_t *date, size_t date_len, const uint8_t *device, size_t device_len,
                           size_t number, uint8_t *text, size_t text_len, size_t *size);
 
-/* Frees the office of a handle, if it has one. The handle can then be given to `cvr_office_new` again. */
+/* Frees the office of a handle, if it has one. The handle can then be given to `cvr_office_new` again. NULL is no handle,
+   and nothing is done. */
 void cvr_office_free(CvrOffice *office);
 
 #ifdef __cplusplus

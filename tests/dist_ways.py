@@ -1,7 +1,7 @@
 """How `./cvr` comes to a program, tried in small trees with a release of stand-ins, without a kit and without Python: it
 runs the release's program where that was made of the tree's sources, and says so once; where dist/ is damaged, or of other
-sources, or can't be unpacked, it says what is wrong, and builds if it can. Nothing half unpacked is left. A module, not a
-command: tests/dist.py runs it."""
+sources, or can't be unpacked, it says what is wrong, and builds if it can. Nothing half unpacked is left. `make install` asks
+tools/program for the library for C, which comes out of the same release. A module, not a command: tests/dist.py runs it."""
 import functools
 import glob
 import hashlib
@@ -101,7 +101,7 @@ def list_files(folder):
 
 # ---- the ways of `./cvr`
 
-CALLED = 'cat chmod cut dirname find gzip id mkdir mktemp mv readlink rm sed sha256sum sort tar tr xargs'.split()
+CALLED = 'basename cat chmod cut dirname find grep gzip id mkdir mktemp mv readlink rm sed sha256sum sort tar tr xargs'.split()
 
 
 class Tree:
@@ -275,6 +275,38 @@ def is_stopped(tree):
     yield 'runs then', tree.runs() and tree.left() == ['cvr']
 
 
+# What an archive has of the library, and its names in the folder that tools/program prints.
+LIBRARY = {'include/cvr.h': 'cvr.h', 'lib/libcvr.a': 'libcvr.a', 'lib/libcvr.so.' + NAMED: 'libcvr.so', 'lib/pkgconfig/cvr.pc': 'cvr.pc'}
+
+
+def library_of(tree):
+    """The folder that `tools/program library` prints, the files in it, and how many lines standard error has."""
+    env = {'PATH': tree.bin, 'TMPDIR': tree.temporary}
+    done = subprocess.run([tree.top + '/tools/program', 'library'], env=env, stdout=subprocess.PIPE, stderr=subprocess.PIPE, text=True, timeout=SECONDS)
+    folder = done.stdout[:-1]
+    return folder, {it: held(os.path.join(folder, it)).decode() for it in (os.listdir(folder) if folder else ())}, done.stderr.count('\n')
+
+
+def finds_library(tree):
+    for path in 'tools/kit.py', 'tools/library', 'library/cvr.c':
+        tree.write(path, path)
+    none, held_in = ('', {}, 1), {name: name for name in LIBRARY.values()}
+    yield 'no library in a release without one, and nothing left', library_of(tree) == none and tree.left() == []
+    pack(tree.archive, {'cvr-%s/%s' % (NAMED, it): LIBRARY[it].encode() for it in LIBRARY})
+    yield 'none of an archive with another sum', library_of(tree) == none
+    list_files(tree.top + '/dist')
+    yield 'the library of the release', library_of(tree) == (tree.top + '/out/release', held_in, 0)
+    shutil.rmtree(tree.top + '/out')
+    tree.write('out', 'a file')
+    yield 'in a temporary folder', library_of(tree) == ('%s/cvr-%d-%s' % (tree.temporary, os.getuid(), sum_of(PROGRAM)), held_in, 0)
+    os.remove(tree.top + '/out')
+    made = subprocess.run([tree.top + '/tools/sum', 'tools/kit.py', 'library', 'tools/library'], stdout=subprocess.PIPE, text=True, check=True).stdout
+    tree.write('out/library/of', made + 'a kit')
+    yield 'the one that was made here', library_of(tree) == (tree.top + '/out/library', {'of': made + 'a kit'}, 0)
+    tree.write('crates/one/src/lib.rt', 'other')
+    yield 'none of other sources', library_of(tree) == none
+
+
 # Where out/, or the temporary folder, too, is on a disk of another kind.
 READ, RUNS_NONE = 'mount --bind "%s" "%s" && mount -o remount,bind,ro "%s" && ', 'mount -t tmpfs -o noexec none "%s" && '
 OUT = 'mkdir "$0/out" && '
@@ -298,7 +330,7 @@ def runs_on_disks(tree):
             shutil.rmtree(it)
 
 
-WAYS = [runs_once, runs_older, runs_linked, runs_elsewhere, runs_of_others, runs_at_once, is_stopped, runs_on_disks]
+WAYS = [runs_once, runs_older, runs_linked, runs_elsewhere, runs_of_others, runs_at_once, is_stopped, finds_library, runs_on_disks]
 
 
 def way_faults(folder):

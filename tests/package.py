@@ -3,18 +3,20 @@
 
 What is installed: `make install` below a folder. There the commands of all documents are run with its programs, but for
 those that read the sources, in a folder with a copy of its examples, made as the guide says. Each link of a document leads
-to something there, and what links to a source in a checkout, to the reference. `man` finds and reads the pages. `make
-uninstall` leaves all that was there before `make install`, also what a package adds, and nothing else. With --installed
-that is all.
+to something there, and what links to a source in a checkout, to the reference. `man` finds and reads the pages. The library
+for C stands there under its names, and with one that tools/program finds an example can be linked, as `pkg-config` says.
+`make uninstall` leaves all that was there before `make install`, also what a package adds, and nothing else. With
+--installed that is all.
 
 Else also what is packed, in two copies of the repository without git: with what tools/targets made, as if it was tried;
 for what isn't made here (tests/targets.py makes it) something else stands in. Both copies give the same bytes, in out/packages
 as in dist/, which tests/dist.py finds whole. In what the archive of the static program has, the commands of README and of
 AUDITING are run, and so are those in its PROVENANCE: they print each sum in it, and sign it, and find the signature right
-or wrong, where there is `ssh-keygen`. The package of Debian has the same files, and `man` reads its pages. The packed
-program needs no library, and the object file beside it can be linked again. The bill of materials names what is linked in
-and what is imported. Nothing is packed that was not tried, or isn't noted as built; and no release that lacks a target, or
-has files that git doesn't know. Where lintian is installed, it finds no error.
+or wrong, where there is `ssh-keygen`. The packages of Debian have the same files, and `man` reads their pages. The library
+for C is tried as above in the archive, and where dpkg installs its packages. The packed program needs no library, and the
+object file beside it can be linked again. The bill of materials names what is linked in and what is imported. Nothing is
+packed that was not tried, or isn't noted as built; and no release that lacks a target, or has files that git doesn't know.
+Where lintian is installed, it finds no error.
 
 The last line is `package: N right, M wrong`; the status is 0 only where M is 0 and N is not."""
 import gzip
@@ -45,6 +47,9 @@ READ = [path % name for name in ('cvr', 'cvr-audit') for path in FOR_EACH]
 READ += ['share/doc/cvr/docs/FAULTS.md', 'share/doc/cvr/docs/AUDITING.md']
 READ += ['share/doc/cvr/docs/reference/README.md', 'share/doc/cvr/docs/reference/cvr_office.md']
 READ += ['share/cvr/cvr_audit/line.py']
+SONAME = 'libcvr.so.' + dist.VERSION.partition('.')[0]
+SHARED, LINKS = 'libcvr.so.' + dist.VERSION, {SONAME: 'libcvr.so.' + dist.VERSION, 'libcvr.so': SONAME}
+MULTIARCH = '/usr/lib/x86_64-linux-gnu'
 SUMS, TOLD, BILL, sum_of, write = (TOOL[it] for it in ('SUMS', 'TOLD', 'BILL', 'sum_of', 'write'))
 FILES = TOOL['TARGETS']['FILES']     # of each target the program, and the library
 FIRST = 'linux-x86_64'      # the target that runs here
@@ -119,12 +124,13 @@ def is_uninstalled(cvr, folder, others, *words):
     return is_done and everything(folder) == before
 
 
-def uninstalls(cvr, folder):
+def uninstalls(cvr, folder, library):
     """Yields each trial of `make uninstall`, and whether it is right."""
     new, old, tree = (os.path.join(folder, name) for name in ('a new prefix', 'an old prefix', 'a tree'))
-    yield 'make uninstall, of a new prefix', is_uninstalled(cvr, new, [], 'PREFIX=' + new)
-    yield 'make uninstall, beside other files', is_uninstalled(cvr, old, ['bin/other', 'share/doc/cvr/PROVENANCE'], 'PREFIX=' + old)
-    yield 'make uninstall, below DESTDIR', is_uninstalled(cvr, tree, ['usr/other'], 'DESTDIR=' + tree, 'PREFIX=/usr', 'ZSH=/usr/share/zsh/vendor-completions')
+    library = 'LIBRARY=' + library
+    yield 'make uninstall, of a new prefix', is_uninstalled(cvr, new, [], 'PREFIX=' + new, library)
+    yield 'make uninstall, beside other files', is_uninstalled(cvr, old, ['bin/other', 'lib/other', 'share/doc/cvr/PROVENANCE'], 'PREFIX=' + old, library)
+    yield 'make uninstall, below DESTDIR', is_uninstalled(cvr, tree, ['usr/other'], 'DESTDIR=' + tree, 'PREFIX=/usr', 'ZSH=/usr/share/zsh/vendor-completions', 'LIBDIR=' + MULTIARCH, library)
 
 
 def man_page(prefix, name):
@@ -141,15 +147,74 @@ def read_pages(prefix):
         yield 'man reads the page of %s below %s' % (name, prefix), bool(status == 0 and re.search(about, text) and not re.search(r':\d+: warning', text))
 
 
+def stand_in(folder):
+    """A folder as tools/library makes it, of small texts."""
+    for name in 'libcvr.a', 'libcvr.so', 'cvr.h':
+        write(os.path.join(folder, name), name)
+    write(os.path.join(folder, 'cvr.pc'), held(os.path.join(TOP, 'library/cvr.pc.in')).replace(b'@VERSION@', dist.VERSION.encode()))
+    return folder
+
+
+def is_library(prefix, libdir, library):
+    """Whether the library of a folder is below a prefix, for everybody to read, under its names."""
+    names = {'cvr.h': prefix + '/include/cvr.h', 'libcvr.a': libdir + '/libcvr.a', 'libcvr.so': os.path.join(libdir, SHARED)}
+    are_same = all(held(os.path.join(library, name)) == held(path) and os.stat(path).st_mode & 0o777 == 0o644 for name, path in names.items())
+    links = {name: os.readlink(os.path.join(libdir, name)) for name in os.listdir(libdir) if os.path.islink(os.path.join(libdir, name))}
+    return are_same and links == LINKS and sorted(os.listdir(libdir)) == sorted([*LINKS, SHARED, 'libcvr.a', 'pkgconfig'])
+
+
+def link_trials(cvr, libdir, root=''):
+    """Yields whether callers see the calls of cvr.h alone in the library in a folder, of another root where one is named; and
+    whether an example that is linked with it as `pkg-config` says, in either form, tallies the county as the program does."""
+    lacking = [it for it in ('cc', 'nm', 'pkg-config', 'readelf') if not shutil.which(it)]
+    lacking += [] if lacking or os.path.isabs(done('cc', '-print-file-name=libc.a')[1].strip()) else ['libc.a']
+    if lacking:
+        tenth.leave_out('programs that are linked with the library', '%s is missing' % lacking[0])
+        return
+    for words in ['-D', SHARED], ['-g', 'libcvr.a']:
+        status, told = done('nm', '-P', '--defined-only', words[0], os.path.join(libdir, words[1]))
+        yield 'what callers see of %s: %s' % (words[1], told), re.findall(r'^(\w+) [A-Z] ', told, re.M) == TOOL['TARGETS']['kit'].SEEN
+    env = dict(os.environ, PKG_CONFIG_LIBDIR=libdir + '/pkgconfig', PKG_CONFIG_SYSROOT_DIR=root, LD_LIBRARY_PATH=libdir)
+    env.update(dict.fromkeys(['PKG_CONFIG_ALLOW_SYSTEM_CFLAGS', 'PKG_CONFIG_ALLOW_SYSTEM_LIBS'], '1'))
+    yield 'pkg-config says the version of ' + libdir, done('pkg-config', '--modversion', 'cvr', env=env) == (0, dist.VERSION + '\n')
+    county = ['examples/county/%s.json' % it for it in ('definition', 'scan', 'adjudicated')]
+    with tempfile.TemporaryDirectory() as room:
+        for form, words in ('shared', []), ('static', ['--static']):
+            program, (status, flags) = os.path.join(room, form), done('pkg-config', *words, '--cflags', '--libs', 'cvr', env=env)
+            status, told = done('cc', *words, '-o', program, 'examples/library/tally.c', *shlex.split('' if status else flags))
+            is_right = status == 0 and done(program, *county, env=env) == done(cvr, 'tally', *county)
+            yield 'an example, linked with the %s library in %s: %s' % (form, libdir, told), is_right
+            yield 'whether that needs the library, by its SONAME', ('[%s]' % SONAME in done('readelf', '-d', program)[1]) == (not words)
+
+
+def installed_library(cvr, prefix, said, folder):
+    """Yields each trial of the library for C: of a stand-in in a tree, and of the one that tools/program finds in a prefix,
+    of which `make install` said something where it finds none."""
+    tree, stand = os.path.join(folder, 'a root'), stand_in(os.path.join(folder, 'a stand-in'))
+    words = ['LIBRARY=' + stand, 'DESTDIR=' + tree, 'PREFIX=/usr', 'LIBDIR=' + MULTIARCH]
+    yield 'make install-library', done('make', 'install-library', *words, umask=0o077)[0] == 0 and is_library(tree + '/usr', tree + MULTIARCH, stand)
+    told = held(tree + MULTIARCH + '/pkgconfig/cvr.pc').decode('utf-8')
+    yield 'cvr.pc has the prefix', re.findall('^(?:prefix|libdir)=(.*)', told, re.M) == ['/usr', MULTIARCH]
+    yield from uninstalls(cvr, folder, stand)
+    library, libdir = done('tools/program', 'library')[1].strip(), os.path.join(prefix, 'lib')
+    if os.path.isdir(library):
+        yield 'make install, the library of these sources', is_library(prefix, libdir, library)
+        yield from link_trials(cvr, libdir)
+    else:
+        yield 'make install says that it finds no library', library != '' and library in said and sorted(os.listdir(prefix)) == ['bin', 'share']
+        tenth.leave_out('a library that is installed', 'tools/program finds none of these sources')
+
+
 def installed(cvr, folder):
     """Yields each trial of what is installed."""
     prefix = os.path.join(folder, 'a prefix')
-    yield 'make install', done('make', 'install', 'CVR=' + cvr, 'PREFIX=' + prefix, umask=0o077)[0] == 0 and is_installed(prefix)
+    status, said = done('make', 'install', 'CVR=' + cvr, 'PREFIX=' + prefix, umask=0o077)
+    yield 'make install', status == 0 and is_installed(prefix)
     yield 'make install, the page for a browser', has_page(prefix, os.path.join(TOP, 'dist/cvr.html'))
     yield links(prefix)
     yield from read_pages(prefix)
     yield from first_runs(prefix, commands.FILES)
-    yield from uninstalls(cvr, folder)
+    yield from installed_library(cvr, prefix, said, folder)
 
 
 # ---- what is packed
@@ -231,6 +296,8 @@ def archive(copy, place):
     yield 'the page for a browser in the archive', has_page(place, os.path.join(copy.packages, 'cvr.html'))
     yield from first_runs(place, ['README.md', 'docs/AUDITING.md'])
     yield from sums(place, 'share/doc/cvr/' + SUMS)
+    yield 'the library in the archive', is_library(place, place + '/lib', copy.path('out/targets', FIRST))
+    yield from link_trials(place + '/bin/cvr', place + '/lib')
     program, told = os.path.join(place, 'bin/cvr'), os.path.join(place, 'share/doc/cvr')
     yield 'no library', re.findall(r'NEEDED.*|INTERP', done('readelf', '-dl', program)[1]) == []
     status, page = done(program + '-audit', 'page', 'examples/county/definition.json', env=dict(os.environ, CVR=program))
@@ -240,25 +307,53 @@ def archive(copy, place):
 
 
 def debian(copy, place, unpacked):
-    """Yields each trial of the package of Debian, which has what the archive has, unpacked."""
-    path = os.path.join(copy.packages, 'cvr_%s_amd64.deb' % dist.VERSION)
-    yield 'dpkg-deb unpacks it', done('dpkg-deb', '-x', path, place)[0] == 0
+    """Yields each trial of the packages of Debian, which have what the archive has, unpacked."""
+    paths = {name: os.path.join(copy.packages, '%s_%s_amd64.deb' % (name, dist.VERSION)) for name in ('cvr', SONAME.replace('.so.', ''), 'libcvr-dev')}
+    for name, path in paths.items():
+        usr, list_of = os.path.join(place, name, 'usr'), 'share/doc/%s/%s' % (name, SUMS)
+        os.makedirs(usr)
+        yield 'dpkg-deb unpacks ' + name, done('dpkg-deb', '-x', path, os.path.dirname(usr))[0] == 0
+        yield from sums(usr, list_of)
+        if shutil.which('lintian'):
+            status, text = done('lintian', '--allow-root', '--fail-on', 'error', path)
+            yield 'lintian: ' + text, status == 0
+        else:
+            tenth.leave_out('lintian', 'it is missing')
+    yield from debian_program(place + '/cvr/usr', unpacked)
+    yield from debian_library(copy, place, list(paths)[1], list(paths.values())[1:], unpacked)
+    for architecture in 'amd64', 'arm64':
+        control = done('dpkg-deb', '-f', paths['cvr'].replace('amd64', architecture), 'Architecture', 'Depends', 'Maintainer')[1]
+        yield 'no package is needed: ' + control, re.fullmatch(r'Architecture: %s\nMaintainer: .*\.invalid>\n' % architecture, control) is not None
+
+
+def debian_program(usr, unpacked):
+    """Yields each trial of the package of the program, which has what the archive has, but for the library."""
     list_of, more = 'share/doc/cvr/' + SUMS, ('share/doc/cvr/changelog', 'share/lintian/overrides/cvr')
-    found, wanted = ({os.path.relpath(it, top): held(it) for it in TOOL['files_below'](top) if not os.path.islink(it)} for top in (place + '/usr', unpacked))
+    found, wanted = ({os.path.relpath(it, top): held(it) for it in TOOL['files_below'](top) if not os.path.islink(it)} for top in (usr, unpacked))
     packed = [name for name in found if re.search(r'man1/|/changelog', name)]
     found.update({name[:-len('.gz')]: gzip.decompress(found.pop(name)) for name in packed})
-    wanted = {name.replace('site-functions', 'vendor-completions'): text for name, text in wanted.items()}
+    wanted = {name.replace('site-functions', 'vendor-completions'): text for name, text in wanted.items() if not re.match('lib/|include/', name)}
     yield 'it has what the archive has, and its own', {**wanted, list_of: found[list_of], **{it: found[it] for it in more}} == found
-    yield from sums(place + '/usr', list_of)
-    yield from read_pages(place + '/usr')
-    for architecture in 'amd64', 'arm64':
-        control = done('dpkg-deb', '-f', path.replace('amd64', architecture), 'Architecture', 'Depends', 'Maintainer')[1]
-        yield 'no package is needed: ' + control, re.fullmatch(r'Architecture: %s\nMaintainer: .*\.invalid>\n' % architecture, control) is not None
-    if shutil.which('lintian'):
-        status, text = done('lintian', '--allow-root', '--fail-on', 'error', path)
-        yield 'lintian: ' + text, status == 0
-    else:
-        tenth.leave_out('lintian', 'it is missing')
+    yield from read_pages(usr)
+
+
+def debian_library(copy, place, name, paths, unpacked):
+    """Yields each trial of the packages of the library, which dpkg installs in another root; who isn't root unpacks them. The
+    first alone has what a linked program needs."""
+    root, number = place + '/root', SONAME.rpartition('.')[2]
+    yield 'what a linked program needs', sorted(os.listdir(os.path.join(place, name) + MULTIARCH)) == [SONAME, SHARED]
+    write(root + '/var/lib/dpkg/status', '')
+    for name in 'info', 'triggers', 'updates':
+        os.mkdir(os.path.join(root, 'var/lib/dpkg', name))
+    env = dict(os.environ, PATH=os.environ['PATH'] + ':/usr/sbin:/sbin')
+    ways = [['dpkg-deb', '-x', it, root] for it in paths] if os.getuid() else [['dpkg', '--root=' + root, '--force-depends', '-i', *paths]]
+    told = [done(*it, env=env) for it in ways]
+    yield 'dpkg installs the library: %s' % told, not any(it[0] for it in told) and is_library(root + '/usr', root + MULTIARCH, copy.path('out/targets', FIRST))
+    yield from link_trials(unpacked + '/bin/cvr', root + MULTIARCH, root)
+    needed = [done('dpkg-deb', '-f', it, 'Depends')[1] for it in paths]
+    yield 'what they need: %s' % needed, re.match(r'libc6 \(>= 2\.\d+\)\n', needed[0]) and needed[1] == 'libcvr%s (= %s)\n' % (number, dist.VERSION)
+    said = [done('dpkg-deb', '-I', paths[0], it)[1] for it in ('shlibs', 'triggers')]
+    yield 'what dpkg does for it: %s' % said, said == ['libcvr %s libcvr%s (>= %s)\n' % (number, number, dist.VERSION), 'activate-noawait ldconfig\n']
 
 
 def others(copy):
@@ -271,14 +366,14 @@ def others(copy):
         yield from bill(name, one(texts, '*/' + BILL), copy, FIRST if 'linux' in name else 'windows-x86_64')
     texts = {name.partition('/')[2]: text for name, text in one(found, '*.zip').items()}
     yield 'one of each name in the ZIP, in whatever case', len({it.lower() for it in texts}) == len(texts)
-    wanted = {'cvr.exe', 'cvr-audit', 'cvr_audit/line.py', 'README.md', 'docs/FORMAT.md', 'examples/county/scan.json'}
+    wanted = {'cvr.exe', 'cvr.dll', 'cvr.h', 'cvr-audit', 'cvr_audit/line.py', 'README.md', 'docs/FORMAT.md', 'examples/county/scan.json'}
     yield 'what stands in the ZIP: %s' % (wanted - set(texts)), wanted <= set(texts)
     yield 'the sums in the ZIP', texts.pop(SUMS, b'').decode('utf-8') == TOOL['listed'](texts)
 
 
 def bill(of, text, copy, target):
     """Yields what the bill of materials of a package has to have, and whether it does."""
-    told, (program, library) = json.loads(text), [copy.path('out/targets', target, it) for it in FILES[target]]
+    told, paths = json.loads(text), [copy.path('out/targets', target, it) for it in [*FILES[target], *['libcvr.a'] * (target == FIRST)]]
     named = {it['name']: it for it in told['packages']}
     names, ids = set(named), [it['SPDXID'] for it in told['packages']]
     ends = [it[end] for it in told['relationships'] for end in ('spdxElementId', 'relatedSpdxElement')]
@@ -288,9 +383,9 @@ def bill(of, text, copy, target):
     crates = re.findall(r'^(\w+)[^:\n]*:', lines, re.M)
     used = {word for line in re.findall(r'^(?!#|cvr_example|cvr_calls)[^:\n]*:(.*)', lines, re.M) for word in line.split()} - set(crates)
     yield 'the libraries of the kit in ' + of, used == {it['name'] for it in told['packages'] if it['versionInfo'] == kit} - {'rattle kit'}
-    linked = {tuple(it.split()) for it in held(os.path.join(os.path.dirname(program), 'linked')).decode().splitlines()}
+    linked = {tuple(it.split()) for it in held(copy.path('out/targets', target, 'linked')).decode().splitlines()}
     yield 'what is linked in, in ' + of, linked and linked <= {(name, it['versionInfo']) for name, it in named.items()}
-    for path in program, library:
+    for path in paths:
         yield 'the sum of %s in %s' % (path, of), named[os.path.basename(path)]['checksums'][0]['checksumValue'] == sum_of(path)
     folders, env = [os.path.join(TOP, it) for it in ('companion', 'python')], dict(os.environ, LIBCVR=copy.path('out/targets', FIRST, FILES[FIRST][1]))
     status, loaded = done(sys.executable, '-c', LOADED, *folders, env=env)

@@ -21,8 +21,10 @@ MADE = os.path.join(TOP, 'out/made')        # what was compiled: NAME.TRIPLE
 X86 = 'x86_64-unknown-linux-gnu'
 FORMS = {'cvr': ('cvr.o', []), 'cvr_call': ('libcvr_call.a', ['--backend', 'llvm'])}       # of each crate the file that is made
 SECONDS = 3000      # of a command, also where it proves beside other proofs
-# The calls of the library: the names that callers see.
-SEEN = ['cvr_call', *('cvr_office_' + it for it in ('conflicts', 'currents', 'free', 'import', 'join', 'new', 'tally', 'volume'))]
+# The calls that are proved; and those of the library, the names that callers see, of which library/cvr.c has four.
+PROVED = ['cvr_call', *('cvr_office_' + it for it in ('conflicts', 'currents', 'drop', 'import', 'join_itself', 'join_other', 'new', 'tally', 'volume'))]
+BELOW = ['cvr_office_drop', 'cvr_office_join_itself', 'cvr_office_join_other']     # on which these four stand
+SEEN = sorted({*PROVED, 'cvr_office_free', 'cvr_office_join', 'cvr_status_text', 'cvr_version'} - set(BELOW))
 # A clang that keeps what it compiles, and its words.
 KEEPS = '''#!/bin/sh
 for word; do case $word in *.bc) cp "$word" {kept}/text.bc; printf '%s\\n' "$@" >{kept}/words;; esac; done

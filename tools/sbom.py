@@ -74,16 +74,16 @@ def linked(line):
     return part(name, version, externalRefs=called('deb/debian', name, version))
 
 
-def bill(label, version, date, programs, packages, kit, folder):
-    """The text for what has this label. `programs` has the crate and the sum of each program or library in it, by name,
-    `packages` the lines of what else is linked in; `folder` is where the kit has its libraries."""
+def bill(label, version, date, programs, kit, folder):
+    """The text for what has this label. `programs` has of each program or library in it, by name, the crate, the sum, the
+    purpose and the lines of what else is linked in; `folder` is where the kit has its libraries."""
     held, relations, document = {}, [], 'SPDXRef-DOCUMENT'
 
     def add(it):
         held[it['SPDXID']] = it
         return it['SPDXID']
 
-    for name, (crate, total, purpose) in programs.items():
+    for name, (crate, total, purpose, packages) in programs.items():
         user = add(own(name, version, total, purpose))
         relations.append((user, 'DESCRIBED_BY', document))
         relations.append((add(part('rattle kit', kit, comment='the compiler, the core library, and some C that is linked in')), 'BUILD_TOOL_OF', user))

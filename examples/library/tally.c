@@ -4,29 +4,62 @@
 #include <stdlib.h>
 #include <string.h>
 
-static uint8_t input[1 << 24], text[1 << 24], log_[1 << 16];
-static size_t length, ends[1024], count;
+static uint8_t *input;
+static size_t length, room, *ends, count;
 
+static void *grown(void *held, size_t size) {
+    void *more = realloc(held, size);
+    if (!more)
+        exit(CVR_MEMORY);
+    return more;
+}
+
+static void add(const void *bytes, size_t size) {
+    if (length + size > room)
+        input = grown(input, room = 2 * (length + size));
+    memcpy(input + length, bytes, size);
+    length += size;
+}
+
+/* A piece of the input: a word, or a path. */
 static void add_word(const char *word) {
-    memcpy(input + length, word, strlen(word));
-    ends[count++] = length += strlen(word);
+    add(word, strlen(word));
+    ends[count++] = length;
+}
+
+/* Two pieces: the path of a file, and its bytes. */
+static void add_file(const char *path) {
+    uint8_t part[4096];
+    size_t size;
+    FILE *file = fopen(path, "rb");
+    add_word(path);
+    while (file && (size = fread(part, 1, sizeof part, file)))
+        add(part, size);
+    ends[count++] = length;
+    if (!file || ferror(file)) {
+        perror(path);
+        exit(CVR_DEVICE);
+    }
+    fclose(file);
 }
 
 int main(int many, char **paths) {
-    CvrSizes sizes;
+    uint8_t *text = NULL, *lines = NULL;
+    int status;
+    ends = grown(NULL, 3 * (size_t)many * sizeof *ends);
     add_word("tally");
     for (int at = 1; at < many; at++)
         add_word(paths[at]);
-    for (int at = 1; at < many; at++) {         /* behind the words, each file's path and its bytes */
-        FILE *file = fopen(paths[at], "rb");
-        if (!file)
-            return CVR_DEVICE;
-        add_word(paths[at]);
-        ends[count++] = length += fread(input + length, 1, sizeof input - length, file);
-        fclose(file);
-    }
-    int status = cvr_call(input, length, ends, count, (size_t)many, text, sizeof text, log_, sizeof log_, &sizes);
+    for (int at = 1; at < many; at++)
+        add_file(paths[at]);
+    CvrSizes sizes = {length, length};      /* mostly enough; else the call says how much is, and is made again */
+    do {
+        size_t text_len = sizes.text, log_len = sizes.log;
+        text = grown(text, text_len + 1);
+        lines = grown(lines, log_len + 1);
+        status = cvr_call(input, length, ends, count, (size_t)many, text, text_len, lines, log_len, &sizes);
+    } while (status == CVR_NO_ROOM);
     fwrite(text, 1, sizes.text, stdout);
-    fwrite(log_, 1, sizes.log, stderr);
+    fwrite(lines, 1, sizes.log, stderr);
     return status;
 }

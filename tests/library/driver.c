@@ -1,6 +1,7 @@
 /* The command line of cvr over the library, for the rows: opens each word that names a file, and each path of a list,
-   and makes one call of them all. The proved program takes of these what the words ask for. */
+   and makes one call of them all, on a stack of the least size. The proved program takes of these what the words ask for. */
 #include "cvr.h"
+#include <pthread.h>
 #include <stdio.h>
 #include <stdlib.h>
 #include <string.h>
@@ -100,23 +101,32 @@ static void add_files(int many, char **all) {
         add_listed(strcmp(all[list], "-") ? all[list] : "/dev/stdin", null ? '\0' : '\n');
 }
 
+static uint8_t *text, *lines;
+static CvrSizes sizes;
+static int status;
+
 /* One call, and a second where the text or the log needs more room. */
-static int call(uint8_t **text, uint8_t **log, CvrSizes *sizes) {
+static void *call(void *none) {
     size_t text_room = length + 1, log_room = length + 1;
-    for (;;) {
-        *text = grown(*text, text_room);
-        *log = grown(*log, log_room);
-        int status = cvr_call(input, length, ends, count, words, *text, text_room, *log, log_room, sizes);
-        if (status != CVR_NO_ROOM)
-            return status;
-        text_room = sizes->text + 1;
-        log_room = sizes->log + 1;
-    }
+    do {
+        text = grown(text, text_room);
+        lines = grown(lines, log_room);
+        status = cvr_call(input, length, ends, count, words, text, text_room, lines, log_room, &sizes);
+        text_room = sizes.text + 1;
+        log_room = sizes.log + 1;
+    } while (status == CVR_NO_ROOM);
+    return none;
+}
+
+/* Has a thread with the least stack call, and waits for its end. */
+static int is_called(void) {
+    pthread_attr_t its;
+    pthread_t thread;
+    return !pthread_attr_init(&its) && !pthread_attr_setstacksize(&its, CVR_LEAST_STACK) && !pthread_create(&thread, &its, call, NULL)
+        && !pthread_join(thread, NULL);
 }
 
 int main(int many, char **all) {
-    uint8_t *text = NULL, *log = NULL;
-    CvrSizes sizes;
 #ifdef _WIN32
     for (int file = 0; file < 3; file++)
         _setmode(file, _O_BINARY);
@@ -127,8 +137,9 @@ int main(int many, char **all) {
         add_word(all[at]);
     words = count;
     add_files(many, all);
-    int status = call(&text, &log, &sizes);
-    fwrite(log, 1, sizes.log, stderr);
+    if (!is_called())
+        return 99;
+    fwrite(lines, 1, sizes.log, stderr);
     if (fwrite(text, 1, sizes.text, stdout) != sizes.text || fflush(stdout)) {
         fputs("out: X1\n", stderr);
         return CVR_DEVICE;

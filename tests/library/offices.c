@@ -1,9 +1,11 @@
 /* Makes offices through the library and prints what it answers, for run.py: that an office lives between calls, holds what
-   it took in, says why it refuses, and, where memory.h counts, leaves no byte behind, also where a growth was refused.
+   it took in, says why it refuses, and, where memory.h counts, leaves no byte behind, also where a growth was refused. All
+   this is done on a stack of the least size.
 
    offices DEFINITION FILE ..  */
 #include "cvr.h"
 #include "memory.h"
+#include <pthread.h>
 #include <stdio.h>
 #include <stdlib.h>
 #include <string.h>
@@ -157,6 +159,20 @@ static void try_texts(char **paths, const File *files, int many) {
     tell(office.office == NULL, "a handle without an office has NULL");
 }
 
+/* The words of each status, which differ; and the version, which the program has, too. */
+static void try_words(void) {
+    for (int one = CVR_DONE; one <= CVR_NO_VOLUME; one++)
+        for (int other = -1; other < one; other++)
+            tell(*cvr_status_text(one) && strcmp(cvr_status_text(one), cvr_status_text(other)), "each status has words of its own");
+    tell(!strcmp(cvr_status_text(CVR_NO_VOLUME + 1), cvr_status_text(-1)) && !strcmp(cvr_status_text(256), cvr_status_text(-1)), "another number is none");
+    static const uint8_t asked[] = "--version";
+    size_t end = sizeof asked - 1;
+    CvrSizes sizes;
+    tell(cvr_call(asked, end, &end, 1, 1, room, ROOM, other_room, ROOM, &sizes) == CVR_DONE, "the program says its version");
+    room[sizes.text - 1] = 0;
+    tell(!strncmp((char *)room, "cvr ", 4) && !strcmp((char *)room + 4, cvr_version()), "which is that of the library");
+}
+
 static void try_joins(const File *files, int many) {
     CvrOffice all = CVR_NO_HANDLE, one = CVR_NO_HANDLE, other = CVR_NO_HANDLE;
     size_t joined = 0, again = 1, imported = 0;
@@ -170,6 +186,7 @@ static void try_joins(const File *files, int many) {
     tell(cvr_office_join(&one, &other, &again) == CVR_DONE && again == 0, "once more brings nothing");
     tell(is_same(&one, &all) && !is_same(&other, &all), "it then holds what one with all files does");
     tell(cvr_office_join(&other, &one, &joined) == CVR_DONE && is_same(&other, &all), "and so does the other");
+    tell(cvr_office_join(&one, &one, &again) == CVR_DONE && again == 0 && is_same(&one, &all), "one takes in nothing of itself");
     cvr_office_free(&all);
     cvr_office_free(&one);
     cvr_office_free(&other);
@@ -209,7 +226,9 @@ static void try_refused(const File *files) {
     tell(cvr_office_tally(&office, room, ROOM, &size) == CVR_DONE, "the office is still there");
     cvr_office_free(&office);
     cvr_office_free(&office);
+    cvr_office_free(NULL);
     tell(office.office == NULL, "nothing happens where there is none");
+    tell(cvr_office_join(&none, &none, &size) == CVR_NO_OFFICE, "which is not joined with itself, either");
 }
 
 /* The status of a volume that isn't there, where room and size stay as they were, or 99. */
@@ -270,20 +289,34 @@ static void try_memory(const File *files, int many) {
 }
 #endif
 
-int main(int many, char **paths) {
-    File files[MOST];
-    if (many < 4 || many > MOST)
-        return 2;
-    for (int at = 1; at < many; at++)
-        files[at - 1] = file_at(paths[at]);
-    try_texts(paths + 1, files, many - 1);
-    try_joins(files, many - 1);
-    try_no_volumes(files);
-    try_refused(files);
-    try_others(files);
+static File given[MOST];
+static char **names;
+static int total;
+
+static void *try_all(void *none) {
+    try_words();
+    try_texts(names, given, total);
+    try_joins(given, total);
+    try_no_volumes(given);
+    try_refused(given);
+    try_others(given);
 #ifdef COUNTED
-    try_memory(files, many - 1);
+    try_memory(given, total);
 #endif
+    return none;
+}
+
+int main(int count, char **all) {
+    pthread_attr_t its;
+    pthread_t thread;
+    total = count - 1;
+    names = all + 1;
+    if (total < 3 || total >= MOST)
+        return 2;
+    for (int at = 0; at < total; at++)
+        given[at] = file_at(names[at]);
+    tell(!pthread_attr_init(&its) && !pthread_attr_setstacksize(&its, CVR_LEAST_STACK) && !pthread_create(&thread, &its, try_all, NULL)
+        && !pthread_join(thread, NULL), "the least stack suffices");
     printf("offices: %d right, %d wrong\n", right, wrong);
     return wrong || !right;
 }

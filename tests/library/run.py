@@ -46,6 +46,7 @@ def complete(library):
     """Puts beside the shared library of the release what tools/library does: as libcvr.a what the linker reads as its name."""
     os.environ['LD_LIBRARY_PATH'] = library
     shutil.copy(os.path.join(TOP, 'library/cvr.h'), library)
+    os.symlink('libcvr.so', library + '/libcvr.so.1')       # by its SONAME
     with open(os.path.join(library, 'libcvr.a'), 'w') as file:
         file.write('INPUT(%s/libcvr.so)\n' % library)
 
@@ -105,6 +106,10 @@ def all_trials(folder, library, word):
     if not shutil.which('cc'):
         tenth.leave_out('calls of the library from C, and its wheel', 'there is no C compiler, cc')
         return
+    if shutil.which('g++'):
+        yield partial(silent_fault, ['g++', '-std=c++17', '-Wall', '-Wextra', '-pedantic', '-Werror', '-fsyntax-only', '-x', 'c++', TOP + '/library/cvr.h'])
+    else:
+        tenth.leave_out('the header in C++', 'there is no g++')
     yield partial(trials.told_fault, 'wheel', [sys.executable, HERE + '/wheel.py', shared])
     yield partial(examples_fault, folder, library)
     yield from trials.call_trials(FLAGS, folder, library + '/libcvr.a', trials.listed_in(trials.CALLED), word)

@@ -1,8 +1,8 @@
 ghost use Rattle.std.specs.Prelude.{◌≡◌, Some, [], false, map, string_bytes, IfOk, IfErr, OnOk};
-ghost use Rattle.cvr_call.specs.declared.fault.CallFault.TheVariants.{Pieces};
+ghost use Rattle.cvr_call.specs.declared.fault.CallFault.TheVariants.{Pieces, Memory};
 ghost use Rattle.cvr_call.specs.Given.{Given, IsInput, files_in, opener_over};
 ghost use Rattle.cvr_run.specs.Responds.{Responds};
-ghost use Rattle.cvr_call.specs.Responds.{IsAnswer};
+ghost use Rattle.cvr_call.specs.Responds.{IsAnswer, IsSoFar};
 
 use crate::fault::CallFault;
 use crate::files::GivenFiles;
@@ -60,6 +60,8 @@ pub fn answer_input(
     ensures answered { IfOk result (λ status. (given : Given)
         → IsInput input.now ends.now words given → IsAnswer given
         (record { status = status; text = out.new.taken; log = log.new.taken })) }
+    ensures so_far { IfErr result (λ fault. fault ≡ Memory → (given : Given)
+        → IsInput input.now ends.now words given → IsSoFar given out.new.taken log.new.taken) }
     ensures some { OnOk result ((given : Given) × IsInput input.now ends.now words given) }
     ensures none { IfErr result (λ fault. fault ≡ Pieces
         → (given : Given) → ¬ IsInput input.now ends.now words given) }

@@ -2,7 +2,7 @@ ghost use Rattle.std.specs.Prelude.{◌≡◌, ◌⊎◌, ◌≤◌, ◌&&◌, l
 ghost use Rattle.std.specs.Prelude.{if◌then◌else◌};
 ghost use Rattle.cvr_run.specs.Status.{code_of};
 ghost use Rattle.cvr_call.specs.Given.{Given, IsInput};
-ghost use Rattle.cvr_call.specs.Responds.{Answer, IsAnswer};
+ghost use Rattle.cvr_call.specs.Responds.{Answer, IsAnswer, IsSoFar};
 ghost use Rattle.cvr_call.specs.Left.{HasPut, IsUnanswered, Leaves, no_input, no_memory, no_room};
 ghost use Rattle.cvr_call.specs.Left.{put_into};
 
@@ -68,6 +68,9 @@ pub extern "C" fn cvr_call(
         → (result ≡ no_memory) ⊎ ((answer : Answer) × IsAnswer given answer
         × Leaves answer (record { text = text.old; log = log.old })
         (record { text = text.new; log = log.new }) sizes.new result) }
+    ensures so_far { result ≡ no_memory → (given : Given) → IsInput input.now ends.now words given
+        → (put : HasPut (record { text = text.old; log = log.old })
+        (record { text = text.new; log = log.new }) sizes.new) × IsSoFar given put.text put.log }
     ensures no_input { result ≡ no_input → (given : Given)
         → ¬ IsInput input.now ends.now words given }
     ensures bad_input { ((given : Given) → ¬ IsInput input.now ends.now words given)

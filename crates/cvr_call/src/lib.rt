@@ -18,8 +18,8 @@ mod words;
 pub use call::{CvrSizes, cvr_call};
 pub use office::CvrOffice;
 pub use offices::{
-    CvrReceipt, cvr_office_conflicts, cvr_office_currents, cvr_office_free, cvr_office_import,
-    cvr_office_join, cvr_office_new, cvr_office_tally,
+    CvrReceipt, cvr_office_conflicts, cvr_office_currents, cvr_office_drop, cvr_office_import,
+    cvr_office_join_itself, cvr_office_join_other, cvr_office_new, cvr_office_tally,
 };
 pub use refusal::CvrRefusal;
 pub use volume::cvr_office_volume;

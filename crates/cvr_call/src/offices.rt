@@ -164,7 +164,7 @@ fn join_into(office: &mut CachedOffice, other: &CachedOffice, new_facts: &mut us
 /// facts were new. Answers 0; 4 where a growth was refused; 7 where a handle has no office; and 8
 /// where the definitions differ. Where it isn't 0, the office stays as it was.
 #[unsafe(no_mangle)]
-pub extern "C" fn cvr_office_join(
+pub extern "C" fn cvr_office_join_other(
     alloc: Global,
     office: &mut CvrOffice,
     other: &mut CvrOffice,
@@ -196,6 +196,28 @@ pub extern "C" fn cvr_office_join(
     office.put(held);
     other.put(theirs);
     status
+}
+
+/// Has the office take in what it holds itself: no fact is new. Answers 0; and 7 where the handle
+/// has no office. C can't lend one handle twice, so this is a call of its own.
+#[unsafe(no_mangle)]
+pub extern "C" fn cvr_office_join_itself(
+    alloc: Global,
+    office: &mut CvrOffice,
+    new_facts: &mut usize,
+) -> u8
+    ensures joined { Does office.old.office office.new.office result
+        (λ old new. (result ≡ done) × Joined old new_facts.new old new) }
+    ensures none { result ≡ done → new_facts.new ≡ 0 }
+    ensures unchanged { office.new.office ≡ office.old.office }
+    ensures same { result ≢ done → new_facts.new ≡ new_facts.old }
+{
+    let Some(held) = office.take(alloc) else {
+        return NO_OFFICE;
+    };
+    office.put(held);
+    *new_facts = 0;
+    Status::Done.code()
 }
 
 /// Puts bytes into a room, with their length, and answers the status of the call.
@@ -299,7 +321,7 @@ pub extern "C" fn cvr_office_conflicts(
 
 /// Frees the office of a handle, which then has none.
 #[unsafe(no_mangle)]
-pub extern "C" fn cvr_office_free(alloc: Global, office: &mut CvrOffice)
+pub extern "C" fn cvr_office_drop(alloc: Global, office: &mut CvrOffice)
     ensures { office.new.office ≡ None }
 {
     let _held = office.take(alloc);

@@ -1,6 +1,6 @@
 -- The `pieces` split into `words` and `files` in one way only, and `status` is the answer to these;
 -- with an odd number of file pieces, or a word that is no text, they aren't words and files.
-use Rattle.std.proofs.Common.{◌∙◌, ap, map, string_bytes, sym}
+use Rattle.std.proofs.Common.{◌∙◌, ap, inr, map, string_bytes, sym}
 use Rattle.std.proofs.lemmas.Result.{err_from_is_err_and}
 use Rattle.cvr_call.specs.Given.{files_in}
 use Rattle.cvr_call.proofs.Giving.{are_split, bytes_give_none, input_gives, odd_gives_none, shown}
@@ -48,6 +48,30 @@ returns-clause-answered c given is =
     (record { taken = c.requires.empty; working = c.requires.working })
     (record { taken = c.requires.log_empty; working = c.requires.log_working })
     c.answer-status.ensures)
+
+pub returns-then-failed-clause-so_far : goal.returns-then-failed-clause-so_far
+returns-then-failed-clause-so_far c fault given is =
+    let pieces = c.in_ok-pieces.pieces.items in
+    let split = are_split pieces c.as_slice.result.now c.in-Some.words.now c.in-Some.files.now
+    c.args.words c.as_slice.ensures.value c.in-Some.ensures.cases in
+    let gives = input_gives _ _ pieces _ given c.in_ok-pieces.ensures.only is in
+    let words = split_words pieces _ c.in-Some.words.now c.in-Some.files.now given split gives in
+    let files = split_files pieces _ c.in-Some.words.now c.in-Some.files.now given split gives in
+    inr (record {
+      status = c.answer-status.result;
+      text_failed = c.answer-status.new.out.has_failed;
+      log_failed = c.answer-status.new.log.has_failed;
+      did = done_over given (map string_bytes c.as_slice-2.result.now)
+          (files_in (shown c.in_ok-files.files.pieces.now))
+          (files_in (shown c.answer-status.new.files.pieces.now))
+          c.answer-status.result c.args.out.now c.args.log.now c.answer-status.new.out
+          c.answer-status.new.log
+          (ap (map string_bytes) c.as_slice-2.ensures.value ∙ (c.in_ok-words.ensures.words ∙ words))
+          (ap (λ fs. files_in (shown fs)) c.in_ok-files.ensures ∙ files)
+          (record { taken = c.requires.empty; working = c.requires.working })
+          (record { taken = c.requires.log_empty; working = c.requires.log_working })
+          c.answer-status.ensures;
+    })
 
 pub returns-clause-some : goal.returns-clause-some
 returns-clause-some c =

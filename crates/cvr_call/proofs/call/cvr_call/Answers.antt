@@ -1,4 +1,7 @@
-use Rattle.std.proofs.Common.{◌≡◌, ◌≢◌, ◌∙◌, ℕ, List, [], ◌∷◌, length, ap, arith, inl, inr, refl}
+use Rattle.std.proofs.Common.{◌≡◌, ◌≢◌, ◌∙◌, ℕ, List, [], ◌∷◌, length, ap, arith, false, inl, inr}
+use Rattle.std.proofs.Common.{refl}
+use Rattle.cvr_call.specs.Given.{Given}
+use Rattle.cvr_call.specs.Responds.{Answer, IsAnswer, IsBegun}
 use Rattle.cvr_call.specs.declared.fault.CallFault.{CallFault}
 use Rattle.cvr_call.specs.declared.fault.CallFault.TheVariants.{Pieces, Memory}
 use Rattle.cvr_call.specs.Left.{fault_code, no_input, no_memory, put_into}
@@ -8,6 +11,11 @@ of_memory : (fault : CallFault) (code : ℕ) → code ≡ fault_code fault → f
     → code ≡ no_memory
 of_memory Pieces code is other = absurd (other refl)
 of_memory Memory code is other = is
+
+to_memory : (fault : CallFault) (code : ℕ) → code ≡ fault_code fault → code ≡ no_memory
+    → fault ≡ Memory
+to_memory Pieces code is four = absurd (omega (arith, is, four))
+to_memory Memory code is four = refl
 
 of_pieces : (fault : CallFault) (code : ℕ) → code ≡ fault_code fault → code ≡ no_input
     → fault ≡ Pieces
@@ -56,6 +64,28 @@ returns-clause-left c = record {
     log_size = ap length c.taken-4.ensures;
   };
 }
+
+-- the program's answer is what it did, whatever its status
+begun : (given : Given) (answer : Answer) → IsAnswer given answer
+    → IsBegun given answer.text answer.log
+begun given answer is = record {
+  status = answer.status;
+  text_failed = false;
+  log_failed = false;
+  did = is;
+}
+
+pub returns-in-Ok-clause-so_far : goal.returns-in-Ok-clause-so_far
+unfolding returns-in-Ok-clause-left
+returns-in-Ok-clause-so_far c four given is =
+    (returns-in-Ok-clause-left c, inr (begun given _ (c.in-Ok.ensures.answered given is)))
+
+pub returns-clause-so_far : goal.returns-clause-so_far
+unfolding returns-clause-left
+returns-clause-so_far c four given is = (
+  returns-clause-left c,
+  c.in-Err.ensures.so_far (to_memory c.in-Err.fault c.code.result c.code.ensures four) given is,
+)
 
 pub returns-in-Ok-clause-bad_input : goal.returns-in-Ok-clause-bad_input
 returns-in-Ok-clause-bad_input c none = absurd (none c.in-Ok.ensures.some.0 c.in-Ok.ensures.some.1)
