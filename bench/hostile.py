@@ -1,13 +1,13 @@
 #!/usr/bin/env python3
-"""hostile.py [--cvr PATH] [--size 300000] [--keep NAME] [SHAPE ..]
+"""hostile.py [--cvr PATH] [--page PATH] [--size 300000] [--only COMMAND] [--keep NAME] [SHAPE ..]
 
 Measures what the author of a file can make each command of `cvr-audit`, and the page of dist/ in Chromium, cost: the
 county of examples/county, with one text that is long, one list that is long, a member that no table has, or two files
 that contradict each other, each of some `size` bytes. Of each command it prints the most memory and the most processor
 time for a byte of the files, beside what the county alone takes, and the shape that took it. The memory is the peak of
 `cvr-audit`, or of a `cvr` that it runs. With names of shapes it measures these alone, and prints each command. With
---keep the figures are appended to runs/DATE-NAME.md. The status is 1 where a command is killed, or has a fault of its
-own."""
+--keep the figures are appended to runs/DATE-NAME.md, and --only measures one command, or `cvr.html`. The status is 1
+where a command is killed, or has a fault of its own."""
 import argparse
 import copy
 import json
@@ -194,12 +194,12 @@ def renderers(browser):
             yield sum(map(int, held[11:13])) / os.sysconf('SC_CLK_TCK'), int(re.search(r'VmHWM:\s+(\d+)', status).group(1)) << 10
 
 
-def shown(folder, names):
-    """The same of dist/cvr.html in Chromium, which tallies files; or its words where it doesn't end."""
+def shown(page, folder, names):
+    """The same of the page in Chromium, which tallies files; or its words where it doesn't end."""
     with tempfile.TemporaryDirectory() as room:
         browser = chromium.Browser(room)
         try:
-            browser.open(os.path.join(TOP, 'dist', 'cvr.html'))
+            browser.open(page)
             browser.value(SETTLED)
             said = tallied(browser, folder, names)
             seconds, room = map(max, zip(*renderers(browser)))
@@ -210,15 +210,16 @@ def shown(folder, names):
     return (seconds, room) if 'memory' not in said else ('page', said)
 
 
-def figures(name, shape, size, cvr):
+def figures(shape, size, words):
     """Of each command the seconds and bytes of memory over a shape, and the bytes of its files."""
     with tempfile.TemporaryDirectory() as folder:
         names, length = laid(folder, shape, size)
-        if chromium.program():
-            yield PAGE, length, shown(folder, names)
+        if chromium.program() and words.only in (None, PAGE):
+            yield PAGE, length, shown(words.page, folder, names)
         given = {'DEF': names[:1], 'FILES': names[1:], 'OUT': ['out']}
-        for command, words in COMMANDS.items():
-            yield command, length, run([part for it in words for part in given.get(it, [it])], folder, cvr)
+        for command, parts in COMMANDS.items():
+            if words.only in (None, command):
+                yield command, length, run([part for it in parts for part in given.get(it, [it])], folder, words.cvr)
 
 
 def worst(report, found, alone):
@@ -237,17 +238,19 @@ def worst(report, found, alone):
 def main():
     words = argparse.ArgumentParser()
     words.add_argument('--cvr', default=os.path.join(TOP, 'out', 'cvr'))
+    words.add_argument('--page', type=os.path.abspath, default=os.path.join(TOP, 'dist', PAGE))
     words.add_argument('--size', type=int, default=300000)
+    words.add_argument('--only', choices=[PAGE, *COMMANDS])
     words.add_argument('--keep')
     words.add_argument('shapes', nargs='*')
     words = words.parse_args()
     report, failed = Report(), 0
-    alone = {command: its for command, _, its in figures('alone', lambda held, _: [held], 0, words.cvr)}
+    alone = {command: its for command, _, its in figures(lambda held, _: [held], 0, words)}
     found = {command: [] for command in alone}
     report.say('%s, %s; %d shapes of %d bytes' % (machine(), commit(), len(words.shapes or SHAPES), words.size))
     report.say()
     for name in words.shapes or SHAPES:
-        for command, length, its in figures(name, SHAPES[name], words.size, words.cvr):
+        for command, length, its in figures(SHAPES[name], words.size, words):
             found[command].append((name, length, its))
             if not isinstance(its[1], int):
                 failed += 1

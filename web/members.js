@@ -21,12 +21,13 @@ function* stepsOf(values) {
 }
 
 // Goes over the places where a value has a text, a number or an empty part: `take` is given the way there, each step with the
-// way above it, and what each value has there; undefined where it has nothing, or parts.
+// way above it, and what each value has there; undefined where it has nothing, or parts. To see whether it has parts takes as
+// long as it has names, so that is done once.
 function through(values, way, take) {
-  const below = values.filter(hasParts), here = values.map(it => hasParts(it) ? undefined : it)
+  const parts = values.map(it => hasParts(it) ? it : null), here = values.map((it, at) => parts[at] ? undefined : it)
   if (here.some(it => it !== undefined)) take(way, here)
-  for (const step of below.length ? stepsOf(below) : [])
-    through(values.map(it => hasParts(it) && Object.hasOwn(it, step) ? it[step] : undefined), {step, above: way}, take)
+  for (const step of stepsOf(parts.filter(it => it)))
+    through(parts.map(it => it && Object.hasOwn(it, step) ? it[step] : undefined), {step, above: way}, take)
 }
 
 // ---- what is shown

@@ -161,6 +161,10 @@ function dividedParts(names, it) {
     devices ? parted(it, 'device', devices, coded) : text('p', 'No record was looked at, so nothing stands by device.')]
 }
 
+const OPENED = 1000     // numbers in a line of each contest: with more, all lines are folded, since what is open takes much memory
+
 function divided(names, its) {
-  return section('By unit, batch and device', ...its.flatMap(it => dividedParts(names, it)))
+  const shown = section('By unit, batch and device', ...its.flatMap(it => dividedParts(names, it)))
+  if (its.reduce((sum, it) => sum + it.sums.length, 0) > OPENED) for (const it of shown.querySelectorAll('details')) it.open = false
+  return shown
 }

@@ -16,7 +16,7 @@ function element(tag, more, ...parts) {
 }
 
 const text = (tag, ...parts) => element(tag, null, ...parts)
-const number = value => element('td', {className: 'number'}, value.toLocaleString('en'))
+const ENGLISH = new Intl.NumberFormat('en'), number = value => element('td', {className: 'number'}, ENGLISH.format(value))     // made once, since that takes long
 const hex = async bytes => [...new Uint8Array(await crypto.subtle.digest('SHA-256', bytes))].map(it => it.toString(16).padStart(2, '0')).join('')
 const say = (said, is_bad) => { at('state').textContent = said; at('state').className = is_bad ? 'bad' : '' }
 

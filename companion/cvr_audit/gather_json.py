@@ -151,6 +151,8 @@ class Document:
         self.rest, self.is_there, self.room = {}, False, said.VALUE
 
     def items(self):
+        if self.source.size > said.TEXT:        # its records are counted once more, in its whole text
+            raise fault(self.source.name, said.TOO_LARGE % said.TEXT)
         window = Window(self.source)
         with reading(self.source, lambda: window.lines):
             yield from self.members(window)

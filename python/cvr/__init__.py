@@ -40,6 +40,7 @@ and its bytes, or a file object. The name of a file object is its `name`, where 
 
 BUFFERS = bytes, bytearray, memoryview
 LONGEST = 67108864      # bytes of a file that may be accepted
+SHORT = 1 << 16         # bytes for which memory is taken before it is known how many there are
 DECODER = json.JSONDecoder()
 MERGE_CODES = {NOT_MOMENT: 'H1', NO_DEVICE: 'H2', NO_VOLUME: 'V1'}
 CONTROLS = re.compile('[\x00-\x1f\x7f-\x9f\u2028-\u202e\u2066-\u2069\ud800-\udfff]')
@@ -176,7 +177,8 @@ def _given(file: File) -> Tuple[Name, bytes]:
         return known if isinstance(known, (str, bytes)) else type(file).__name__, _whole(file)
     path = os.fspath(file)
     with open(path, 'rb') as opened:
-        return path, opened.read(LONGEST + 1)
+        start = opened.read(SHORT)
+        return path, start if len(start) < SHORT else start + opened.read(LONGEST + 1 - SHORT)
 
 
 def _listed(files: Iterable[File]) -> Iterable[File]:

@@ -328,6 +328,7 @@ def cdf():
            path + ': /CVR/2: cvr refuses it: E3 /BallotAuditId 3 The file does not have the form of a report: a value is of another kind, at /BallotAuditId.')
     yield 'no number', replaced(path, b'"UniqueId": "1-0003"', b'"UniqueId": "1-0003", "x": NaN'), path + ': it is no JSON, or cut off: ..'
     yield 'no version', replaced(path, b'"Version": "1.0.0",', b''), path + ': cvr refuses it: E3 /Version 2'
+    yield 'many bytes', lambda: os.truncate(path, (1 << 28) + 1), path + ': ' + MANY % (1 << 28)
 
 
 def dominion_json():
@@ -384,6 +385,7 @@ def dominion_json():
            path + ': line 5: ' + MANY % (1 << 25))
     yield ('many bytes beside the sessions', lambda: write(path, read(path).rstrip()[:-1] + b',"a":"%s","b":"%s"}' % ((b'a' * (1 << 24),) * 2)),
            path + ': "b": ' + MANY % (1 << 25))
+    yield 'many bytes', lambda: os.truncate(path, (1 << 28) + 1), path + ': ' + MANY % (1 << 28)
     yield 'a list of many bytes', replaced(more + 'ContestManifest.json', b'', b' ' * (1 << 25)), more + 'ContestManifest.json: ' + MANY % (1 << 25)
     yield 'no sessions', everywhere(path, b'"Sessions"', b'"Session"'), 'dominion-json: ' + UNKNOWN
 

@@ -21,6 +21,7 @@ import tempfile
 import threading
 import time
 import traceback
+import tracemalloc
 
 sys.dont_write_bytecode = True
 TOP = os.path.dirname(os.path.dirname(os.path.dirname(os.path.abspath(__file__))))
@@ -181,6 +182,13 @@ def of_files():
         with open(path, 'wb') as file:
             file.truncate(67108865)
         yield 'a file that is too long is E1', refused(cvr.tally, DEFINITION, [path]).code == 'E1'
+        with open(path, 'wb') as file:
+            file.write(held(SCAN).replace(b'{', b'{' + b' ' * 100000, 1))
+        yield 'one that is longer than most is read whole', cvr.tally(DEFINITION, [path]) == wanted
+    tracemalloc.start()
+    cvr.check(DEFINITION, [SCAN])
+    yield 'a short file takes little memory', tracemalloc.get_traced_memory()[1] < 1 << 20
+    tracemalloc.stop()
     yield 'files are read one after the other', in_turn(held(SCAN)) == ['asked', 'read', 'asked', 'read']
     yield 'and none after one that is refused', in_turn(b'') == ['asked', 'read']
 

@@ -171,7 +171,8 @@ def harmful():
         'rule': scan.replace('"CVR": [{', '"CVR": [{%s, ' % part.replace('0]', '0.5]'), 1),
         'differs': scan.replace('"Election": [{', '"Election": [{%s, ' % part, 1),
         'deep': '[' * 100000, 'open': '{"a": ' * 100000 + '1',
-        'one': json.dumps(scan_with()).replace('"CVR": [{', '"CVR": [{%s, ' % part, 1), 'two': json.dumps(scan_with()).replace('"CVR": [{', '"CVR": [{%s, ' % part.replace('0]', '1]'), 1)}
+        **{name: json.dumps(scan_with(z={name + str(it): 0 for it in range(MANY)})).replace('"CVR": [{', '"CVR": [{%s, ' % part.replace('0]', end), 1)
+           for name, end in (('one', '0]'), ('two', '1]'))}}
 
 
 def see_harm(browser, trial, folder):
@@ -189,6 +190,19 @@ def see_harm(browser, trial, folder):
     trial.see('what is deep', [found[it]['seems'][:32] for it in ('deep.json', 'open.json')], ['It is JSON that not every reader'] * 2)
     shown = browser.value(BESIDE)
     trial.see('a long name in conflict', [[it[0][1][0], sorted(it[0][1][1:])] for it in shown], [['/%s…/%d' % (NAME[:500], MANY - 1), ['0', '1']]])
+
+
+OPEN = "[...document.querySelectorAll('#answer details[open] > summary')].map(it => it.textContent.split(':')[0]).filter(it => it.startsWith('By '))"
+
+
+def see_wide(browser, trial, folder):
+    """The lines by unit, batch and device of a contest stand open, but not those of one with very many selections."""
+    report = county('scan.json')
+    selections = report['Election'][0]['Contest'][0]['ContestSelection']
+    selections += [dict(selections[0], **{'@id': 'more-%d' % it}) for it in range(1000)]
+    lay(folder, wide=report, without=dict(report, CVR=[]))
+    for names, wanted in (['definition.json', 'scan.json'], ['By unit', 'By batch', 'By device'] * 2), (['without.json', 'wide.json'], []):
+        trial.see('what stands open of %s' % names[1], (tallied(browser, folder, names), browser.value(OPEN)), ('Done.', wanted))
 
 
 # ---- words
@@ -226,7 +240,7 @@ def seen(browser):
 
 
 def see_all(browser, trial):
-    for see in see_table, see_sources, see_conflict, see_harm, see_words:
+    for see in see_table, see_sources, see_conflict, see_harm, see_wide, see_words:
         within(see, browser, trial)
 
 
