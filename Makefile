@@ -13,7 +13,7 @@ LIBS = $(DESTDIR)$(LIBDIR)
 DOCUMENTS = README.md CHANGELOG.md LICENSE SECURITY.md examples/README.md docs/reference/README.md \
 	$(wildcard docs/*.* examples/*/*.* examples/exports/*/*.* examples/exports/*/*/*.*)
 # What the repository alone has: of a link to it, an installed document has the text.
-ALONE = CONTRIBUTING\.md|(bench|crates|dist|library|man|python|tests|web)/
+ALONE = CONTRIBUTING\.md|(bench|crates|dist|javascript|library|man|python|tests|web)/
 
 # Copies the documents to a folder, and makes the pages of the reference there.
 copied = for file in $(DOCUMENTS); do install -D -m 644 "$$file" "$(1)/$$file" || exit; done && tools/reference "$(1)" && \

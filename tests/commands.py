@@ -23,7 +23,7 @@ import tenth        # (it stands beside this file)
 TOP = os.path.dirname(os.path.dirname(os.path.abspath(__file__)))
 FILES = ['README.md', 'docs/GUIDE.md', 'docs/AUDITING.md', 'docs/GATHER.md', 'docs/PAGE.md', 'examples/README.md',
          'examples/recipes/README.md', 'examples/many-machines/README.md']
-TOOLS = ['awk', 'comm', 'diff', 'gzip', 'jq', 'python3', 'sha256sum', 'sqlite3', 'zcat']
+TOOLS = ['awk', 'comm', 'diff', 'gzip', 'jq', 'node', 'python3', 'sha256sum', 'sqlite3', 'zcat']
 STATUS = 'echo $?'
 SECONDS = 300
 

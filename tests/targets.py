@@ -182,7 +182,7 @@ def own_trials(target, cvr, folder, is_dist):
             file.write(rows.VECTORS[name])
     for given in INPUTS:
         yield partial(input_fault, cvr, folder, *given)
-    if not target.is_wasm:      # a closed pipe ends the driver, which isn't the program; serve.js sees what is imported
+    if not target.is_wasm:      # a closed pipe ends the driver, which isn't the program; serve.mjs sees what is imported
         yield partial(pipe_fault, cvr, folder)
         yield from [] if is_dist else [partial(needed_fault, target.path)]
 

@@ -114,38 +114,25 @@ static Block *find(u64 size) {
     return found ? lists[word * 64 + __builtin_ctzll(found)] : 0;
 }
 
-void *cvr_malloc(u64 count) {
+/* ---- what the program calls */
+
+Answer rattle_alloc(u64 count, u64 alignment) {
+    (void)alignment;        /* at most 16 */
     u64 size = rounded(count);
     Block *block = find(size);
     if (!block && !(block = extended(size)))
-        return 0;
+        return (Answer){0, 0};
     take(block);
     cut(block, size);
     used += block->size;
-    return (char *)block + HEAD;
+    return (Answer){1, (char *)block + HEAD};
 }
 
-void cvr_free(void *bytes) {
+void rattle_dealloc(void *bytes) {
     Block *block = at((u64)bytes - HEAD);
     used -= block->size;
     give_back(block);
 }
-
-/* The bytes in use. */
-u64 cvr_used(void) { return used; }
-
-/* What the host calls. The attribute export_name would make a table, which no module over a 64-bit memory can be read with. */
-__asm__(".export_name cvr_malloc, cvr_malloc\n.export_name cvr_free, cvr_free\n.export_name cvr_used, cvr_used");
-
-/* What the program calls. */
-
-Answer rattle_alloc(u64 size, u64 alignment) {
-    (void)alignment;        /* at most 16 */
-    void *bytes = cvr_malloc(size);
-    return (Answer){bytes != 0, bytes};
-}
-
-void rattle_dealloc(void *bytes) { cvr_free(bytes); }
 
 Answer rattle_realloc(void *bytes, u64 kept, u64 size, u64 alignment) {
     Block *block = at((u64)bytes - HEAD), *next = behind(block);
@@ -163,7 +150,49 @@ Answer rattle_realloc(void *bytes, u64 kept, u64 size, u64 alignment) {
     Answer answer = rattle_alloc(size, alignment);
     if (answer.is_given) {
         __builtin_memcpy(answer.bytes, bytes, kept);
-        cvr_free(bytes);
+        rattle_dealloc(bytes);
     }
     return answer;
 }
+
+/* ---- what the host calls */
+
+enum { MARK = 16 };         /* bytes before those of the host: whether they are its */
+static const char *said;    /* why a call was cut off */
+
+static u64 *mark_of(void *bytes) { return (u64 *)((u64)bytes - MARK); }
+static u64 mark_at(u64 *mark) { return (u64)mark ^ 0x6376722e686f7374; }
+
+void *cvr_malloc(u64 count) {
+    Answer answer = rattle_alloc(count >> 32 ? count : count + MARK, 16);
+    u64 *mark = answer.bytes;
+    if (!answer.is_given)
+        return 0;
+    *mark = mark_at(mark);
+    return (char *)mark + MARK;
+}
+
+/* Traps, with words in `cvr_said`, before anything is changed, where these bytes aren't the host's, or no longer. */
+void cvr_free(void *bytes) {
+    u64 place = (u64)bytes, first = (u64)&__heap_base + HEAD + MARK;
+    u64 *mark = mark_of(bytes);
+    if (place % 16 || place < first || place > (u64)end || *mark != mark_at(mark)) {
+        said = "cvr_free: cvr_malloc did not give this address, or it is free already";
+        __builtin_trap();
+    }
+    *mark = 0;
+    rattle_dealloc(mark);
+}
+
+/* The bytes in use; and the words on what was last cut off here, once, with a NUL behind them, or 0. */
+u64 cvr_used(void) { return used; }
+
+const char *cvr_said(void) {
+    const char *words = said;
+    said = 0;
+    return words;
+}
+
+/* The attribute export_name would make a table, which no module over a 64-bit memory can be read with. */
+__asm__(".export_name cvr_malloc, cvr_malloc\n.export_name cvr_free, cvr_free\n.export_name cvr_used, cvr_used\n"
+        ".export_name cvr_said, cvr_said");

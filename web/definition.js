@@ -72,12 +72,12 @@ function frameOf(path, bytes) {
 
 // What cvr finds wrong with a file alone, or null.
 function faultIn(module, source, bytes) {
-  const words = ['check', '--', source.path], held = new Files(module, [source], [words])
+  const words = ['check', '--', source.path], held = new cvr.Files(module, [source], [words])
   held.put(bytes)
-  const {status, log} = held.run(words)
+  const answer = held.run(words)
   held.end()
-  if (status > 1) throw status === 4 ? new Refused() : new Error(log)
-  return status ? judged([source.path], '', log)[0].fault : null
+  if (answer.status > 1) throw failure(answer)
+  return answer.status ? judged([source.path], '', answer.log)[0].fault : null
 }
 
 // Adds what a report says of its election; stops where that differs from the ones before.
@@ -91,7 +91,7 @@ function takeFrame(union, path, frame) {
 
 // The definition that reports give; null where cvr refuses each of them. Of each file what is wrong with it, and its sum.
 async function madeOf(files, compiled, tell) {
-  const module = new Module(compiled), union = new Union(), said = new Reports(), states = [], sums = []
+  const module = new cvr.Module(compiled), union = new Union(), said = new Reports(), states = [], sums = []
   for await (const [it, {value, reason}] of settledOf(groupsOf(files, false), bytesAndSum)) {
     tell(it.path, `Reading ${sums.length + 1} of ${files.length} for a definition: ${it.path}`)
     if (reason) throw reason

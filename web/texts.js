@@ -7,11 +7,6 @@ const ONE = ['CVR.BallotMeasureContest', 'CVR.RetentionContest']        // of on
 const SEVERAL = ['cumulative', ...RANKED]       // in which one selection may have several votes of a ballot
 const FAULT = /^(?:E[126]|E3 .* \d+|E[45] .*|K[12]|memory)$/
 
-// The parts of a printed line: texts, numbers and null.
-function partsOf(line) {
-  return line.match(/"(?:[^"\\]|\\.)*"|[^ ]+/g).map(it => it[0] === '"' ? JSON.parse(it) : it === 'null' ? null : /^\d+$/.test(it) ? BigInt(it) : it)
-}
-
 function linesOf(text) {
   return text.split('\n').slice(0, -1)
 }
@@ -25,7 +20,7 @@ function grouped(values, key) {
 
 // The rows of `cvr tally`: contest, unit, batch, then the numbers of the columns and of the selections.
 function rowsOf(text) {
-  return linesOf(text).map(partsOf).map(([contest, unit, batch, ...rest]) => {
+  return linesOf(text).map(cvr.parts).map(([contest, unit, batch, ...rest]) => {
     const votes = rest.slice(COLUMNS.length)
     return {contest, unit, batch, selections: votes.filter((_, at) => at % 2 === 0),
       numbers: [...rest.slice(0, COLUMNS.length), ...votes.filter((_, at) => at % 2 === 1)]}
@@ -35,7 +30,7 @@ function rowsOf(text) {
 // What `cvr conflicts` prints: each name, its kind first, and how many texts it has. The last line has the number of volumes.
 function conflictsIn(text) {
   return linesOf(text).slice(0, -1).map(line => {
-    const parts = partsOf(line), count = Number(parts.pop())
+    const parts = cvr.parts(line), count = Number(parts.pop())
     return {name: line.startsWith('device ') ? parts : [parts[2], parts[0], parts[1], ...parts.slice(3)], count}
   })
 }

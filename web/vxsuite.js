@@ -107,11 +107,11 @@ const textOfReport = report => JSON.stringify(report, (_, it) => typeof it === '
 // Stops where cvr doesn't accept a report without its records.
 async function seeFrame(compiled, path, frame) {
   const text = new Blob([textOfReport(frame)]), words = ['check', '--', 'definition.json']
-  const held = new Files(new Module(compiled), [{path: 'definition.json', file: text, size: text.size}], [words])
-  held.put(await bytesOf(held.files[0], HELD))
-  const {status, log} = held.run(words)
-  if (status === 1) throw new Unfit(path, filled(RULES.REFUSED, log.trim().split(': ').at(-1).replace(' /', ` /${RULES.FRAME}/`)))
-  if (status) throw status === 4 ? new Refused() : new Error(log)
+  const held = new cvr.Files(new cvr.Module(compiled), [{path: 'definition.json', size: text.size}], [words])
+  held.put(new Uint8Array(await text.arrayBuffer()))
+  const answer = held.run(words)
+  if (answer.status === 1) throw new Unfit(path, filled(RULES.REFUSED, answer.log.trim().split(': ').at(-1).replace(' /', ` /${RULES.FRAME}/`)))
+  if (answer.status) throw failure(answer)
 }
 
 // What an export says of itself; JSON that is whole, and no member of it twice.

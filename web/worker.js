@@ -17,75 +17,16 @@ async function bytesAndSum(source, piece) {
   return {bytes, sum: source.size < HELD ? await digest(bytes) : null}
 }
 
-// Files, each with its path and the size that it had when it was given.
-class Files {
-  constructor(module, files, runs) {
-    this.module = module
-    this.files = files
-    this.encoded = files.map(it => new TextEncoder().encode(it.path))
-    this.room = Math.max(...runs.map(words => new TextEncoder().encode(words.join('')).length))       // of the words, before the files
-    this.size = files.reduce((sum, it, at) => sum + this.encoded[at].length + Math.min(it.size, HELD), 0)
-    this.ends = []
-    this.place = module.take(this.room + this.size)
-  }
-
-  // Puts the bytes of the next file behind those before it.
-  put(bytes) {
-    for (const piece of [this.encoded[this.ends.length / 2], bytes]) {
-      const start = this.ends.at(-1) ?? 0
-      this.module.bytes(this.place + this.room + start, piece.length).set(piece)
-      this.ends.push(start + piece.length)
-    }
-  }
-
-  end() {
-    this.module.free(this.place)
-  }
-
-  // The bytes of a file that was read.
-  bytes(at) {
-    return this.module.bytes(this.place + this.room + this.ends[2 * at], this.ends[2 * at + 1] - this.ends[2 * at])
-  }
-
-  // Runs a command: its words stand before the files, and end where these begin. A volume may be as long as all files.
-  run(words) {
-    const text = Math.max(1 << 20, words[0] === 'merge' ? this.size : this.size >> 4), pieces = words.map(it => new TextEncoder().encode(it)), ends = []
-    const count = pieces.reduce((sum, it) => (ends.push(sum + it.length), sum + it.length), 0)
-    const all = [...ends, ...this.ends.map(it => it + count)], input = {place: this.place + this.room - count, count: count + this.size}
-    pieces.forEach((it, at) => this.module.bytes(input.place + ends[at] - it.length, it.length).set(it))
-    const table = {place: this.module.take(8 * all.length), count: all.length}
-    this.module.numbers(table.place, all.length).set(all.map(BigInt))
-    return this.answered(input, table, words.length, {text, log: 1 << 16})
-  }
-
-  // Volume 1 by a command; null where it has no text, or where memory lacks: cvr then holds it twice besides the rest.
-  volume(words) {
-    if (this.module.its.memory.buffer.byteLength + 2 * this.size > WHOLE) return null
-    try {
-      const {status, text} = this.run(words)
-      return status > 1 || !text.length ? null : new Volume(text)
-    } catch (fault) {
-      if (!isOfMemory(fault)) throw fault
-      return null
-    }
-  }
-
-  // One call, and a second where the text or the log needs more room.
-  answered(input, table, words, rooms) {
-    const {module} = this, sizes = module.take(16)
-    for (;;) {
-      const text = {place: module.take(rooms.text), count: rooms.text}, log = {place: module.take(rooms.log), count: rooms.log}
-      const status = module.call(input, table, words, text, log, sizes)
-      const [printed, logged] = [...module.numbers(sizes, 2)].map(Number)
-      const answer = {status, text: module.bytes(text.place, Math.min(printed, text.count)).slice(),
-        log: new TextDecoder().decode(module.bytes(log.place, Math.min(logged, log.count)))}
-      module.free(text.place, log.place)
-      if (status !== 6) {
-        module.free(table.place, sizes)
-        return answer
-      }
-      rooms = {text: Math.max(rooms.text, printed), log: Math.max(rooms.log, logged)}
-    }
+// Volume 1 by a command over files in memory; null where it has no text, or where memory lacks: cvr then holds it twice
+// besides the rest.
+function volumeOf(held, words) {
+  if (held.module.size + 2 * held.size > WHOLE) return null
+  try {
+    const {status, text} = held.run(words)
+    return status > 1 || !text.length ? null : new Volume(text)
+  } catch (fault) {
+    if (!isOfMemory(fault)) throw fault
+    return null
   }
 }
 
@@ -103,7 +44,7 @@ async function withDevice(runs, definition) {
 
 // Reads files; tells which, and answers the sum of each by its path.
 async function readTo(held, groups, tell) {
-  const sums = new Map(), count = held.files.length
+  const sums = new Map(), count = held.paths.length
   for await (const [it, {value, reason}] of settledOf(groups, bytesAndSum)) {
     tell(it.path, `Reading ${sums.size + 1} of ${count}: ${it.path}`)
     if (reason) throw reason
@@ -118,14 +59,14 @@ async function readTo(held, groups, tell) {
 // what the records say; or why no current snapshot was looked at.
 async function answered(compiled, files, runs, tell) {
   const groups = groupsOf([...new Map(files.map(it => [it.path, it])).values()]), order = groups.flatMap(it => it.sources)
-  const all = await withDevice(runs, files[0]), held = new Files(new Module(compiled), order, all), answers = []
+  const all = await withDevice(runs, files[0]), held = new cvr.Files(new cvr.Module(compiled), order, all), answers = []
   const looks = all.some(([task]) => task === 'conflicts')     // at the records; then volume 1 is for that alone
   const by_path = await readTo(held, groups, tell), sums = files.map(it => by_path.get(it.path)), places = new Map(order.map((it, at) => [it.path, at]))
   const read = at => held.bytes(places.get(files[at].path))
   let volume = null
   for (const words of all) {
     tell(null, `Running cvr ${words[0]}`)
-    if (words[0] === 'merge' && looks) volume = held.volume(words)
+    if (words[0] === 'merge' && looks) volume = volumeOf(held, words)
     else answers.push(held.run(words))
   }
   for (const it of answers) it.sum = await digest(it.text)
@@ -137,7 +78,10 @@ async function answered(compiled, files, runs, tell) {
   return {first: its.states[0].records === undefined ? null : frameText(read(0)), sums, answers, unseen, ...its}
 }
 
-const isOfMemory = fault => fault instanceof Refused || fault instanceof RangeError
+const isOfMemory = fault => fault instanceof RangeError
+
+// What a run means that has no answer.
+const failure = ({status, log}) => status === 4 ? new RangeError('out of memory') : new Error(log)
 
 // What a fault is: that of a source, want of memory, that of the file that is read, or that of the program.
 function faultOf(fault, path) {

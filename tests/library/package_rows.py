@@ -1,24 +1,27 @@
 #!/usr/bin/env python3
-"""package_rows.py [WORD]
+"""package_rows.py [--node MODULE] [WORD]
 
-Puts the rows of tests/rows through the functions of the package for Python, over the library that LIBCVR names; with a word
-a tenth of them. What is answered has to spell the text of the row, and the first line that is logged has to be the fault. Rows
-of other commands, of refused words and of a failing output have no such function. docs/LIBRARY.md says where the functions
-differ: a missing file is noted when its turn comes, so after the fault of one before it; and a path may have no NUL.
-The last line is `python rows: N right, M wrong`."""
+Puts the rows of tests/rows through the functions of the package for Python, over the library that LIBCVR names, or of that
+for JavaScript at a path, by rows.mjs; with a word a tenth of them. What is answered has to spell the text of the row, and
+the first line that is logged has to be the fault. Rows of other commands, of refused words and of a failing output have no
+such function; in JavaScript none has a name that isn't UTF-8. docs/LIBRARY.md says where the functions differ: a missing
+file is noted when its turn comes, so after the fault of one before it; and a path may have no NUL. The last line is `python
+rows: N right, M wrong`, or the same of javascript."""
+import argparse
 import json
 import os
+import subprocess
 import sys
 import tempfile
 
 sys.dont_write_bytecode = True
 TOP = os.path.dirname(os.path.dirname(os.path.dirname(os.path.abspath(__file__))))
 sys.path[:0] = [os.path.join(TOP, it) for it in ('python', 'tests', 'tests/rows')]
-import cvr                      # noqa: E402
 import members                  # noqa: E402
 import run as rows              # noqa: E402
 from tenth import chosen        # noqa: E402 (all stand there)
 
+HERE = os.path.dirname(os.path.abspath(__file__))
 LATER = {'missing-before-refused', 'missing-after-refused', 'missing-after-refused-of-tally', 'merge-missing-file-before-all'}
 NUL = 'files-from-nul-in-a-path'
 
@@ -40,8 +43,8 @@ def conflict(it):
 def spelled(command, definition, *words):
     """The text of a command, from what its function answers."""
     if command == 'merge':
-        return cvr.merge(definition, words[0], words[1], int(words[2]), words[3:]).decode()
-    found = getattr(cvr, command)(definition, words)
+        return python().merge(definition, words[0], words[1], int(words[2]), words[3:]).decode()
+    found = getattr(python(), command)(definition, words)
     if command == 'check':
         return ''.join('%s %d\n' % (it, found[it] // words.count(it)) for it in words)
     if command == 'currents':
@@ -52,14 +55,34 @@ def spelled(command, definition, *words):
     return ''.join(line(*quoted(*it[:3]), *map(str, it.numbers), *own) for it, own in zip(found, votes))
 
 
-def answered(words):
-    """(text, line, status) of a command by its function."""
+def python():
+    """The package for Python, which needs a library."""
+    import cvr
+    return cvr
+
+
+def answered(folder, words):
+    """(text, line, status) of a command in a folder by its function in Python."""
+    os.chdir(folder)
     try:
         return spelled(*words), '', 0
-    except cvr.Fault as fault:
+    except python().Fault as fault:
         return '', '%s\n' % fault, fault.status
     except OSError:
         return '', '', 3
+    finally:
+        os.chdir(TOP)
+
+
+def asked(module):
+    """The same by its function in JavaScript."""
+    node = subprocess.Popen(['node', HERE + '/rows.mjs', module], stdin=subprocess.PIPE, stdout=subprocess.PIPE, text=True, encoding='utf-8')
+
+    def answer(folder, words):
+        node.stdin.write(json.dumps({'folder': folder, 'words': words}) + '\n')
+        node.stdin.flush()
+        return tuple(json.loads(node.stdout.readline()))
+    return answer
 
 
 def expected(row, short):
@@ -80,30 +103,35 @@ def words_of(row, short):
     return None
 
 
-def fault_of(row, short, words):
+def fault_of(row, short, words, answered):
     """What is wrong with a row, or None."""
     with tempfile.TemporaryDirectory() as folder:
         rows.lay(folder, row, short)
-        os.chdir(folder)
-        try:
-            got = answered(words)
-        finally:
-            os.chdir(TOP)
+        got = answered(folder, words)
     wanted = expected(row, short)
     if row['name'] in LATER:
         return None if (got[2], wanted[2]) == (1, 3) else 'a fault comes first'
     return None if got == wanted else 'got %.300r, expected %.300r' % (got, wanted)
 
 
+def is_utf8(words):
+    """Whether words are texts; bytes that aren't are there as halves of surrogates."""
+    return not any('\ud800' <= sign <= '\udfff' for sign in ''.join(words))
+
+
 def main():
-    right = wrong = 0
+    given = argparse.ArgumentParser()
+    given.add_argument('--node', metavar='MODULE', help='the package for JavaScript')
+    given.add_argument('word', nargs='?', default='', help='of which a tenth of the rows follows')
+    given, right, wrong = given.parse_args(), 0, 0
+    call, is_odd = (asked(given.node), lambda it: not is_utf8(it)) if given.node else (answered, lambda it: False)
     every = [(row, short, words_of(row, short)) for row, short in [it[1:] for it in rows.all_rows()] + [(row, {}) for row in members.rows()]]
-    for row, short, words in chosen(''.join(sys.argv[1:]), [it for it in every if it[2] and it[0]['name'] != NUL], lambda it: it[0]['name']):
-        found = fault_of(row, short, words)
+    for row, short, words in chosen(given.word, [it for it in every if it[2] and it[0]['name'] != NUL and not is_odd(it[2])], lambda it: it[0]['name']):
+        found = fault_of(row, short, words, call)
         if found:
             print('WRONG: %s: %s' % (row['name'], found))
         right, wrong = right + (not found), wrong + bool(found)
-    print('python rows: %d right, %d wrong' % (right, wrong))
+    print('%s rows: %d right, %d wrong' % ('javascript' if given.node else 'python', right, wrong))
     sys.exit(1 if wrong or not right else 0)
 
 

@@ -4,12 +4,14 @@
 Tries the library for Linux that tools/targets makes, or with --dist that of the release (dist_files.py), whose shared
 form is linked then: calls.c and offices.c, which call it from C; the package for Python (package.py), also as a wheel
 (wheel.py), and with slips (slips.py), each of which has to be found; its types, by `mypy`, and its columns, by pandas,
-where these are; the commands in docs/LIBRARY.md, which show an example in each language; and the rows of tests/rows,
-through the package (package_rows.py) and through driver.c, which is the command line of the program over the library.
-With --tenth it tries a tenth of the rows and slips. Rows that driver.c can't answer as the program does stand in
-elsewhere.txt, each with the reason: one that is answered rightly all the same is wrong, and so is one that is no row.
+where these are; that for JavaScript in the same ways (package.mjs, types.mts), where Node is, over the module that
+tools/targets makes or the release has; the commands in docs/LIBRARY.md, which show an example in each language; and the
+rows of tests/rows, through the packages (package_rows.py) and through driver.c, which is the command line of the program
+over the library. With --tenth it tries a tenth of the rows and slips. Rows that driver.c can't answer as the program does
+stand in elsewhere.txt, each with the reason: one that is answered rightly all the same is wrong, and so is one that is no
+row.
 
-Without a C compiler, `cc`, it only tries the package for Python. The last line is `library: N right, M wrong`; the status
+Without a C compiler, `cc`, it only tries the packages. The last line is `library: N right, M wrong`; the status
 is 0 only where M is 0."""
 import argparse
 import os
@@ -31,6 +33,7 @@ import tenth        # noqa: E402
 import trials       # noqa: E402 (the others stand there)
 
 FLAGS = ['cc', '-std=c11', '-O1', '-Wall', '-Wextra', '-Werror', '-pthread']
+NODE = ['node', '--expose-gc', HERE + '/package.mjs']
 PYTHONS = sys.executable, '/usr/bin/python3'        # which may have pandas
 FRAMES = '''
 import pandas, cvr
@@ -51,9 +54,11 @@ def complete(library):
         file.write('INPUT(%s/libcvr.so)\n' % library)
 
 
-def examples_fault(folder, library):
-    """What is wrong with the commands in docs/LIBRARY.md, run where they find the examples, the package and the library."""
+def examples_fault(folder, library, module):
+    """What is wrong with the commands in docs/LIBRARY.md, run where they find the examples, the packages and the library; the
+    module is the release's where none is given."""
     copy = os.path.join(folder, 'copy')
+    script(copy, 'dist', module or TOP + '/dist/cvr.wasm')
     for name in 'examples', 'python':
         shutil.copytree(os.path.join(TOP, name), os.path.join(copy, name))
     shutil.copytree(library, os.path.join(copy, 'out/library'))
@@ -67,18 +72,56 @@ def silent_fault(command, **more):
     return told or 'status %d' % status if status else None
 
 
-def slip_fault(way, folder, env):
-    """What is wrong with a slip of the package, which package.py has to find, or None."""
-    copy = shutil.copytree(os.path.join(TOP, 'python'), os.path.join(folder, way.name))
-    path = os.path.join(copy, 'cvr', way.file)
+def slip_fault(way, path, command, env=None):
+    """What is wrong with a slip of a package in the file at a path, which a command has to find, or None."""
     with open(path, encoding='utf-8') as file:
         text = file.read()
     if text.count(way.old) != 1:
         return 'the slip %s stands %d times, not once' % (way.name, text.count(way.old))
     with open(path, 'w', encoding='utf-8') as file:
         file.write(text.replace(way.old, way.new))
-    status, told = trials.printed([sys.executable, HERE + '/package.py', copy], env=env)
-    return None if status == 1 and re.search(r'\npython: \d+ right, [1-9]\d* wrong\n$', told) else 'the slip %s is not found: %s' % (way.name, told)
+    status, told = trials.printed(command, env=env)
+    return None if status == 1 and re.search(r'\n\w+: \d+ right, [1-9]\d* wrong\n$', told) else 'the slip %s is not found: %s' % (way.name, told)
+
+
+def python_slip_fault(way, folder, env):
+    copy = shutil.copytree(os.path.join(TOP, 'python'), os.path.join(folder, way.name))
+    return slip_fault(way, os.path.join(copy, 'cvr', way.file), [sys.executable, HERE + '/package.py', copy], env)
+
+
+def script(folder, name, module):
+    """The path of a copy of the package for JavaScript in a new folder, with the module."""
+    own = shutil.copytree(os.path.join(TOP, 'javascript'), os.path.join(folder, name))
+    shutil.copy(module, own)
+    return os.path.join(own, 'cvr.mjs')
+
+
+def script_slip_fault(way, folder, module):
+    own = script(folder, 'script-' + way.name, module)
+    return slip_fault(way, own, [*NODE, own])
+
+
+def types_fault(folder, module):
+    """What is wrong with the types of the package for JavaScript, or None."""
+    own = os.path.dirname(script(folder, 'types', module))
+    shutil.copy(HERE + '/types.mts', own)
+    return silent_fault([*'tsc --strict --noEmit --target es2022 --module node16 --moduleResolution node16'.split(), own + '/types.mts'])
+
+
+def script_trials(folder, module, word):
+    """Yields those of the package for JavaScript, over a module."""
+    if not module or not shutil.which('node'):
+        tenth.leave_out('the package for JavaScript', 'there is no %s' % ('node' if module else 'module'))
+        return
+    own = script(folder, 'script', module)
+    yield partial(trials.told_fault, 'javascript', [*NODE, own])
+    yield partial(trials.told_fault, 'javascript rows', [sys.executable, HERE + '/package_rows.py', '--node', own, word])
+    for way in tenth.chosen(word, slips.SCRIPT, lambda it: it.name):
+        yield partial(script_slip_fault, way, folder, module)
+    if shutil.which('tsc'):
+        yield partial(types_fault, folder, module)
+    else:
+        tenth.leave_out('the types of the package for JavaScript', 'there is no tsc')
 
 
 def package_trials(folder, shared, word):
@@ -87,7 +130,7 @@ def package_trials(folder, shared, word):
     yield partial(trials.told_fault, 'python', [sys.executable, HERE + '/package.py'], env=env)
     yield partial(trials.told_fault, 'python rows', [sys.executable, HERE + '/package_rows.py', word], env=env)
     for way in tenth.chosen(word, slips.WAYS, lambda it: it.name):
-        yield partial(slip_fault, way, folder, env)
+        yield partial(python_slip_fault, way, folder, env)
     if shutil.which('mypy'):
         yield partial(silent_fault, ['mypy', '--strict', '--cache-dir=' + os.devnull, TOP + '/python/cvr'])
     else:
@@ -99,10 +142,11 @@ def package_trials(folder, shared, word):
         tenth.leave_out('columns of the package for Python', 'there is no pandas')
 
 
-def all_trials(folder, library, word):
-    """Yields the trials of the library in a folder."""
+def all_trials(folder, library, module, word):
+    """Yields the trials of the library in a folder, and of a module."""
     shared = os.path.join(library, 'libcvr.so')
     yield from package_trials(folder, shared, word)
+    yield from script_trials(folder, module, word)
     if not shutil.which('cc'):
         tenth.leave_out('calls of the library from C, and its wheel', 'there is no C compiler, cc')
         return
@@ -111,7 +155,7 @@ def all_trials(folder, library, word):
     else:
         tenth.leave_out('the header in C++', 'there is no g++')
     yield partial(trials.told_fault, 'wheel', [sys.executable, HERE + '/wheel.py', shared])
-    yield partial(examples_fault, folder, library)
+    yield partial(examples_fault, folder, library, module)
     yield from trials.call_trials(FLAGS, folder, library + '/libcvr.a', trials.listed_in(trials.CALLED), word)
 
 
@@ -126,7 +170,8 @@ def main():
         if shared:
             if words.dist:
                 complete(os.path.dirname(shared))
-            found = trials.outcomes(all_trials(folder, os.path.dirname(shared), words.tenth))
+            module = dist_files.taken('wasm/cvr.wasm', words.dist, folder)
+            found = trials.outcomes(all_trials(folder, os.path.dirname(shared), module, words.tenth))
         else:
             tenth.leave_out('library', dist_files.LACKS if words.dist else 'it is not made')
     for line in found:

@@ -1,5 +1,5 @@
-"""slips.py: slips that the package for Python could have. Each changes a text that stands once in its file of python/cvr, and
-package.py has to find it."""
+"""slips.py: slips that the packages could have. Each changes a text that stands once in its file of python/cvr, and package.py
+has to find it; or in javascript/cvr.mjs, and package.mjs has to find it."""
 from collections import namedtuple
 
 Way = namedtuple('Way', 'name file old new')
@@ -33,4 +33,41 @@ WAYS = [Way(*it) for it in [
     ('frees_nothing_when_a_thread_ends', '_library.py', 'self._has_ended = True\n        self.free()', 'self._has_ended = True'),
     ('sees_no_thread_end', '_library.py', 'THREAD.end = End(THREAD.home)', 'THREAD.end = None'),
     ('frees_several_at_once', '_library.py', 'with self._turn:', 'with threading.Lock():'),
+]]
+SCRIPT = [Way(name, 'cvr.mjs', old, new) for name, old, new in [
+    ('rounds_a_number', 'if (number > Number.MAX_SAFE_INTEGER) throw', 'if (false) throw'),
+    ('swaps_two_numbers', "'overvotes', 'undervotes'", "'undervotes', 'overvotes'"),
+    ('forgets_the_rule', 'rule: said.rule || null', 'rule: null'),
+    ('has_a_path_of_each_code', 'said.code < 3 ? null', 'said.code < 1 ? null'),
+    ('shows_controls', 'super(shown(', 'super(('),
+    ('forgets_the_volumes', "code === 'V1' ?", "code === 'V2' ?"),
+    ('takes_letters_for_files', 'isPath(files) || isBytes', 'isBytes'),
+    ('takes_parts_for_files', ' || isPair(files)', ''),
+    ('takes_half_a_pair', r'if (/\p{Surrogate}/u.test(text)) throw', 'if (false) throw'),
+    ('counts_the_last_of_a_name', '(counts.get(name) ?? 0) + ', ''),
+    ('holds_all_files_at_once', 'for await (const it of all) await office', 'const every = []\n    for await (const it of all) every.push(await nameAndBytes(it))\n    for (const it of every) await office'),
+    ('takes_all_of_a_buffer', 'data.buffer, data.byteOffset, data.byteLength', 'data.buffer'),
+    ('loses_the_first_letter', 'ignoreBOM: true', 'ignoreBOM: false'),
+    ('cuts_a_long_log', 'if (status !== NO_ROOM) return {', 'return {'),
+    ('cuts_a_long_path', '&& length <= room ?', '?'),
+    ('leaves_its_rooms', 'if (!this.isLost) this.free(...places)', ''),
+    ('keeps_a_dropped_office', 'dropped.register(this, {module, place: this.#place}, this)', ''),
+    ('has_a_memory_for_each', 'if (!current || current.isLost) current', 'current'),
+    ('goes_on_in_a_lost_memory', '!current || current.isLost', '!current'),
+    ('forgets_that_a_memory_is_lost', 'this.#lost = fault  ', ''),
+    ('takes_a_refusal_for_a_loss', '      this.#lost = null\n      throw new Error(said)', '      throw new Error(said)'),
+    ('takes_a_wrong_call_for_a_loss', 'if (its?.length !== numbers.length) throw', 'if (false) throw'),
+    ('joins_itself_as_another', 'ours === theirs ?', 'false ?'),
+    ('joins_in_another_memory', 'if (this.#module !== other.#module) throw', 'if (false) throw'),
+    ('uses_a_closed_office', 'if (this.#place === null) throw', 'if (false) throw'),
+    ('takes_the_number_0', '|| number < 1) throw', '|| number < 0) throw'),
+    ('keeps_the_memory_of_the_last_module', "  current = null\n  await its", '  await its'),
+    ('stays_without_a_module', 'if (compiled === its) compiled = null', ''),
+    ('takes_a_later_module_away', 'if (compiled === its) compiled', 'compiled'),
+    ('takes_any_module', 'if (!WebAssembly.Module.exports(its)', 'if (false && !WebAssembly.Module.exports(its)'),
+    ('lets_votes_change', "for (const name of ['set', 'delete', 'clear'])", 'for (const name of [])'),
+    ('loses_votes_in_json', 'toJSON() {', 'inJSON() {'),
+    ('loses_the_line_of_a_fault', '{enumerable: true}', '{enumerable: false}'),
+    ('reads_bytes_later', 'heldIn(file) ?? await nameAndBytes(file)', 'await nameAndBytes(file)'),
+    ('takes_letters_for_words', "if (typeof words === 'string') throw", 'if (false) throw'),
 ]]

@@ -1,4 +1,4 @@
-/* `cvr_call` by the module of WebAssembly: sends what it is given to serve.js, which is at CVR_SOCKET, and puts what comes
+/* `cvr_call` by the module of WebAssembly: sends what it is given to serve.mjs, which is at CVR_SOCKET, and puts what comes
    back in its place. */
 #include "cvr.h"
 #include <stdlib.h>

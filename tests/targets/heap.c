@@ -1,6 +1,8 @@
 /* Tries tools/heap.c, over a memory that stands at a low address: many calls of random sizes, which blocks they overlap,
-   that each keeps its bytes, that a refused growth changes nothing, and that what is freed joins to one block. */
+   that each keeps its bytes, that a refused growth changes nothing, and that what is freed joins to one block. What the
+   host frees has to be its own: else there is a trap with words, and nothing is changed. */
 #define _GNU_SOURCE
+#include <setjmp.h>
 #include <stdio.h>
 #include <stdlib.h>
 #include <string.h>
@@ -16,7 +18,10 @@ static unsigned long grow(unsigned long more) {
     return (pages += more) - more;
 }
 
+static jmp_buf trapped;
+
 #define __asm__(text) struct Unused
+#define __builtin_trap() longjmp(trapped, 1)
 #define __builtin_wasm_memory_size(memory) pages
 #define __builtin_wasm_memory_grow(memory, more) grow(more)
 #include "../../tools/heap.c"
@@ -88,6 +93,30 @@ static int call(int n, int *is_right) {
     return !answer.is_given;
 }
 
+/* Whether the host can't free a block, and is told so, once. */
+static int is_refused(void *bytes) {
+    u64 in_use, before = used;
+    if (!setjmp(trapped)) {
+        cvr_free(bytes);
+        return 0;
+    }
+    return !strncmp(cvr_said(), "cvr_free: ", 10) && !cvr_said() && used == before && is_whole(&in_use);
+}
+
+/* What the host frees: a block of the program, one that is free already, parts of one, and places where there is none. */
+static void try_host(void) {
+    char *its = cvr_malloc(100), *last = cvr_malloc(0), *other = rattle_alloc(100, 16).bytes;
+    memset(its, 1, 100);
+    tell(its && last && !((u64)its % 16), "the host is given blocks");
+    tell(is_refused(other), "the host can't free a block of the program");
+    tell(is_refused(its + 1) && is_refused(its + 16) && is_refused(its - 16), "the host can't free parts of a block");
+    tell(is_refused(0) && is_refused((void *)8) && is_refused((void *)~0xful) && is_refused((char *)end + 64), "there are no blocks elsewhere");
+    cvr_free(its);
+    tell(is_refused(its), "a block can't be freed twice");
+    cvr_free(last);
+    rattle_dealloc(other);
+}
+
 int main(void) {
     u64 in_use, refused = 0;
     int is_right = 1, whole = 1;
@@ -105,7 +134,8 @@ int main(void) {
     tell(!cvr_malloc(1ull << 32) && !cvr_malloc(~0ull), "4 GiB are refused");
     for (int n = 0; n < HELD; n++)
         if (held[n].bytes)
-            cvr_free(held[n].bytes);
+            rattle_dealloc(held[n].bytes);
+    try_host();
     tell(is_whole(&in_use) && !used && behind(at(rounded((u64)&__heap_base))) == end, "what is freed is one block");
     printf("heap: %d right, %d wrong\n", right, wrong);
     return wrong || !right;

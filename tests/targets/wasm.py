@@ -2,7 +2,7 @@
 
 Small texts show how LLVM's text and that of the module are changed, and what is refused. One process of Node has the
 module. The command line over the library, tests/library/driver.c, calls it through ask.c, so each row of tests/rows goes
-through it; so does calls.c. heap.c tries its heap, and refuse.js the page's worker with little memory. Where `jsc` is
+through it; so does calls.c. heap.c tries its heap, and refuse.mjs the package for JavaScript with little memory. Where `jsc` is
 installed, the engine of Safari without the browser, it reads the worker's scripts, and tallies the county by engine.js."""
 import contextlib
 import hashlib
@@ -22,7 +22,7 @@ TOP = os.path.dirname(os.path.dirname(HERE))
 COMPILED = ['gcc', '-std=gnu11', '-O1', '-Wall', '-Wextra', '-Werror', '-Wno-attributes', '-pthread', '-I', os.path.join(TOP, 'library')]
 LOW = ['-no-pie', '-Wl,--defsym=__heap_base=0x10000008']        # where heap.c has its memory
 PATIENCE = 60       # seconds until Node listens
-PAGES = 64          # of 64 KiB, for refuse.js
+PAGES = 64          # of 64 KiB, for refuse.mjs
 
 
 # Texts for tools/targets and tools/narrow.py, with what they become, and what isn't known.
@@ -128,7 +128,7 @@ def text_faults(tool):
 def serving(module, folder):
     """Has a process of Node call the module for ask.c."""
     socket = os.environ['CVR_SOCKET'] = os.path.join(folder, 'socket')
-    server = subprocess.Popen(['node', os.path.join(HERE, 'serve.js'), module, socket])
+    server = subprocess.Popen(['node', os.path.join(HERE, 'serve.mjs'), module, socket])
     try:
         for _ in range(10 * PATIENCE):
             if os.path.exists(socket) or server.poll() is not None:
@@ -145,11 +145,12 @@ def driver(folder):
     return compiled(COMPILED, os.path.join(folder, 'driver'), 'library/driver.c', 'targets/ask.c')
 
 
-def jsc_fault(module):
+def jsc_fault(module, folder):
     """What is wrong with the county's tally in the engine of Safari, or None."""
-    html, scripts = runpy.run_path(os.path.join(TOP, 'tools/html')), ['-e', 'globalThis.onmessage = null']      # which a worker has
-    for name in html['WORKER']:
-        scripts.append(os.path.join(TOP, 'web', name))
+    html, package = runpy.run_path(os.path.join(TOP, 'tools/html')), os.path.join(folder, 'package.js')
+    with open(package, 'w', encoding='utf-8') as file:
+        file.write(html['package']())
+    scripts = ['-e', 'globalThis.onmessage = null', package, *(os.path.join(TOP, 'web', it) for it in html['WORKER'])]      # which a worker has
     told = printed(['jsc', *scripts, os.path.join(HERE, 'engine.js'), '--', module, *FILES])[1]
     return None if hashlib.sha256(told.encode()).hexdigest() == json.loads(html['carried']())['sum'] else 'jsc: ' + told
 
@@ -157,10 +158,10 @@ def jsc_fault(module):
 def trials(module, folder):
     """Yields the trials of the module besides its rows: functions that answer what is wrong, or None."""
     if shutil.which('jsc'):
-        yield partial(jsc_fault, module)
+        yield partial(jsc_fault, module, folder)
     else:
         leave_out('the engine of Safari', 'there is no jsc. On Debian: apt-get install libjavascriptcoregtk-4.0-bin')
     heap, calls = os.path.join(folder, 'heap'), os.path.join(folder, 'calls')
     yield partial(told_fault, 'heap', [compiled(COMPILED + LOW, heap, 'targets/heap.c')])
     yield partial(told_fault, 'calls', [compiled(COMPILED + ['-DAPART'], calls, 'library/calls.c', 'targets/ask.c'), *FILES])
-    yield partial(told_fault, 'refuse', ['node', '--wasm-max-mem-pages=%d' % PAGES, os.path.join(HERE, 'refuse.js'), module, *FILES])
+    yield partial(told_fault, 'refuse', ['node', '--wasm-max-mem-pages=%d' % PAGES, os.path.join(HERE, 'refuse.mjs'), module, *FILES])

@@ -13,14 +13,17 @@ and the next one is right. A page whose module is changed, or that gives another
 Chromium also shows it at the width
 of a phone, in the dark, in forced colours and on paper, without a mouse, with a script that isn't run, with little
 memory, and keeps what it asks the network for: nothing; a server here, which the page is made to call, hears nothing in
-either. There also slips of the page's own code (slips.py) are each found, with --tenth a tenth of them.
+either. Another page imports the package for JavaScript from a server. In Chromium also slips of the page's own code
+(slips.py) are each found, with --tenth a tenth of them.
 
 tools/targets makes the module, or with --dist it is that of the release (dist_files.py). The page is made twice, and its
 parts looked at; without the module or a browser only that is tried, which is said. The last line is `browser: N right, M
 wrong`; the status is 0 only where M is 0 and N is not."""
 import base64
+import functools
 import hashlib
 import html.parser
+import http.server
 import json
 import os
 import re
@@ -30,6 +33,7 @@ import socket
 import subprocess
 import sys
 import tempfile
+import threading
 import time
 
 sys.dont_write_bytecode = True
@@ -502,6 +506,47 @@ def see_network(browser, trial):
     trial.see('nothing is asked of the network', asked, [])
 
 
+class Served(http.server.SimpleHTTPRequestHandler):
+    """Files of a folder, for a page from anywhere."""
+
+    def end_headers(self):
+        self.send_header('Access-Control-Allow-Origin', '*')
+        super().end_headers()
+
+    def log_message(self, *_):
+        """Says nothing."""
+
+
+SCRIPT = """<!DOCTYPE html><meta charset="utf-8"><title>cvr</title><p id="state">Starting</p><script type="module">
+const say = it => { document.getElementById('state').textContent = it }, from = it => 'http://127.0.0.1:%d/' + it
+try {
+  const cvr = await import(from('cvr.mjs')), names = %s
+  const [definition, ...files] = await Promise.all(names.map(async it => new File([await (await fetch(from(it))).blob()], it)))
+  const rows = await cvr.tally(definition, files.slice(0, 2)), [fault, path] = await Promise.all([[definition, files], [names[0], files]].map(it => cvr.tally(...it).catch(it => it)))
+  say(JSON.stringify([rows.map(it => [...Object.values(it).slice(0, -1), ...[...it.votes].flat()]), [fault.file, fault.code, fault.path, fault.rule], path.name]))
+} catch (fault) {
+  say('fault: ' + fault)
+}
+</script>"""
+
+
+def see_script(browser, trial, folder):
+    """A page that imports the package for JavaScript from a server."""
+    served, page, names = os.path.join(folder, 'served'), os.path.join(folder, 'script.html'), ['definition.json', 'scan.json', 'adjudicated.json', 'damaged.json']
+    os.mkdir(served)
+    for path in trial.module, TOP + '/javascript/cvr.mjs', *(os.path.join(COUNTY, it) for it in names):
+        shutil.copy(path, os.path.join(served, 'cvr.wasm' if path == trial.module else os.path.basename(path)))
+    with http.server.ThreadingHTTPServer(('127.0.0.1', 0), functools.partial(Served, directory=served)) as server:
+        threading.Thread(target=server.serve_forever, daemon=True).start()
+        with open(page, 'w', encoding='utf-8') as file:
+            file.write(SCRIPT % (server.server_port, json.dumps(names)))
+        browser.open(page)
+        said = browser.value(SETTLED)
+        server.shutdown()
+    wanted = [[parts(it) for it in trial.printed('tally', *names[:3]).decode().splitlines()], ['damaged.json', 'E3', '/CVR/0/UniqueId', 2], 'TypeError']
+    trial.see('a page that imports the package', json.loads(said) if said.startswith('[') else said, wanted)
+
+
 def see_changed(browser, trial, page, folder):
     """A page with another module, and one whose example has another tally."""
     with open(page, encoding='utf-8') as file:
@@ -639,7 +684,7 @@ def slipped(way, module):
     held = html['held']
 
     def with_slip(*path):
-        return held(*path).replace(way.old.encode(), way.new.encode()) if path == ('web', way.file) else held(*path)
+        return held(*path).replace(way.old.encode(), way.new.encode()) if path[-1] == way.file else held(*path)
     html['page'].__globals__['held'] = with_slip
     return html['page'](held(module))
 
@@ -702,6 +747,7 @@ def see_browser(kind, trial, page, words):
                 see_unread(browser, trial, page, folder)
                 see_ways(browser, trial, folder, words.tenth)
             see_changed(browser, trial, page, folder)
+            see_script(browser, trial, folder)
         finally:
             browser.end()
 

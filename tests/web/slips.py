@@ -131,7 +131,7 @@ WAYS = [
     Way('looks_at_first_bytes_alone', 'definition.js', 'content === HAS_RECORDS || source.size <= RULES.HEAD ?', 'true ?', 'see_contents'),
     Way('takes_a_text_for_a_member', 'definition.js', "at = end - 1", "at += 0", 'see_contents'),
     Way('takes_half_a_report_for_the_definition', 'definition.js', 'is_report && last.name === null ?', 'is_report ?', 'see_refusals'),
-    Way('makes_a_definition_of_a_refused_file', 'definition.js', 'return status ? judged', 'return false ? judged', 'see_refusals'),
+    Way('makes_a_definition_of_a_refused_file', 'definition.js', 'return answer.status ? judged', 'return false ? judged', 'see_refusals'),
     Way('keeps_the_lesser_text_of_a_device', 'vxsuite.js', 'compact(first.value)) > 0)', 'compact(first.value)) < 0)', 'see_made'),
     Way('writes_long_numbers_rounded', 'vxsuite.js', 'JSON.rawJSON(`${it}`)', 'Number(it)', 'see_made'),
     Way('puts_members_in_another_order', 'definition.js', r'if (/"\d+"\s*:/.test(text))', 'if (false)', 'see_several'),
