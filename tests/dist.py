@@ -5,7 +5,7 @@ Looks at dist/, the release that stands in the repository. SHA256SUMS has the su
 PROVENANCE names the newest release in CHANGELOG.md, and has the sums of the page, of the module in it, and of the programs
 and libraries in the archives and wheels; it stands in each of these, too. The program for this system says the version.
 The page starts in Chromium or in Firefox, where one of them is installed: so it has tallied the county that it carries,
-and found the text that has to come. Each signature beside PROVENANCE is one of it.
+and found the text that has to come. The module beside the package for JavaScript is the page's. Each signature beside PROVENANCE is one of it.
 
 Then `./cvr` is tried with releases of stand-ins (dist_ways.py), and so is this test, on some in which a part is changed.
 
@@ -43,6 +43,7 @@ from trial import SETTLED   # noqa: E402 (it stands in tests/audit)
 VERSION = TOOL['VERSION']
 HERE_TARGET = '%s-%s' % (os.uname().sysname.lower(), os.uname().machine)
 SIGNED = TOLD + '.builder.sig'
+MODULE = 'cvr.wasm'
 FAULTS = EOFError, OSError, ValueError, tarfile.TarError, zipfile.BadZipFile, zlib.error
 
 
@@ -55,7 +56,7 @@ def inside(name, data):
     """The files in an archive, or the module in the page, by their names; none where it can't be read."""
     try:
         if name == PAGE:
-            return {'cvr.wasm': gzip.decompress(base64.b64decode(re.search(rb'id="module">([^<]*)<', data).group(1)))}
+            return {MODULE: gzip.decompress(base64.b64decode(re.search(rb'id="module">([^<]*)<', data).group(1)))}
         if name.endswith('.tar.gz'):
             with tarfile.open(fileobj=io.BytesIO(data)) as file:
                 return {it.name: file.extractfile(it).read() for it in file if it.isfile()}
@@ -89,7 +90,7 @@ def faults(folder, version=VERSION):
     if texts.pop(SUMS, b'').decode('utf-8', 'replace') != TOOL['listed'](texts):
         yield '%s: other sums, or other files' % SUMS
     names = {named(archive, version) for archive, _ in PLACES.values()}
-    wanted = {TOLD, *names, *(it[:-len('.tar.gz')] + '.o' for it in names if it.endswith('.tar.gz'))}
+    wanted = {TOLD, MODULE, *TOOL['SCRIPTS'], *names, *(it[:-len('.tar.gz')] + '.o' for it in names if it.endswith('.tar.gz'))}
     if len(texts) != len(wanted) or not all(one(texts, it) for it in wanted):
         yield 'files: %s' % ', '.join(sorted(texts))
     told = told_in(texts.get(TOLD, b''))
@@ -101,6 +102,8 @@ def faults(folder, version=VERSION):
     for name, data in sums.items():
         if told.get(name) != sum_of(data):
             yield '%s: PROVENANCE has another sum' % name
+    if texts.get(MODULE) != held_in[PAGE].get(MODULE):
+        yield 'module: %s is another one than the page has' % MODULE
     for archive in set(held_in) - {PAGE}:
         if one(held_in[archive], '*/' + TOLD) != texts.get(TOLD):
             yield 'inside: another PROVENANCE in %s' % archive
@@ -175,7 +178,8 @@ def sign_another(folder):
 # What is changed in a release, or told of it, and the first words of what is found.
 CHANGES = [
     (change(PAGE, b'</html'), {}, {SUMS, 'page'}),
-    (change(PAGE, b'id="module">H4'), {}, {SUMS, 'page', 'page-module'}),
+    (change(PAGE, b'id="module">H4'), {}, {SUMS, 'page', 'page-module', 'module'}),
+    (change(MODULE, b'wasm/cvr'), {}, {SUMS, 'module'}),
     (change(TOLD, b'To check'), {}, {SUMS, 'inside'}),
     (change(SUMS, b'cvr.html'), {}, {SUMS}),
     (change('cvr-%s-linux-x86_64.tar.gz' % NAMED, b'\x1f\x8b'), {}, {SUMS, 'linux-x86_64', 'inside'}),
@@ -224,6 +228,8 @@ def built_faults(folder):
             print('%s is not compared: %s' % (name, '; '.join(others)))
         else:
             yield None if told.get(name) == here[name] else '%s: the release has another one than is made here' % name
+    for name in TOOL['SCRIPTS'] if told.get('page-sources') == here.get('page-sources') else ():
+        yield None if held(os.path.join(DIST, name)) == held(os.path.join(TOP, 'javascript', name)) else '%s: the release has another one' % name
     rows = subprocess.run([sys.executable, 'tests/rows/run.py', '--cvr', of_release('linux-x86_64/cvr', folder)], cwd=TOP, stdout=subprocess.PIPE, text=True).stdout
     yield None if re.search(r'^rows: [1-9]\d* right, 0 wrong\n\Z', rows, re.M) else rows[-2000:]
 

@@ -74,7 +74,7 @@ def stand_in(folder, version=NAMED, sources='none', told=None):
     os.makedirs(folder)
     for archive, held_in in archives.items():
         pack(os.path.join(folder, named(archive, version).replace('*', '2_14')), held_in)
-    for name, data in (PAGE, page), (TOLD, text):
+    for name, data in (PAGE, page), (TOLD, text), ('cvr.wasm', texts['wasm/cvr.wasm']), *((it, it) for it in TOOL['SCRIPTS']):
         TOOL['write'](os.path.join(folder, name), data)
     list_files(folder)
     return folder

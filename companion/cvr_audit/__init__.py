@@ -1,3 +1,3 @@
 """What cvr-audit is made of: a module for each command, and those that they share."""
 
-VERSION = '1.3.0'
+VERSION = '1.4.0'

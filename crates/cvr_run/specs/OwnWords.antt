@@ -13,7 +13,7 @@ use Rattle.cvr_run.specs.Logged.{out_line}
 
 -- the program's name and its version
 abbrev pub version_text : List ℕ
-version_text = codes "cvr 1.3.0\n"
+version_text = codes "cvr 1.4.0\n"
 
 -- the words ask for the version: `--version` or `-V`, alone
 abbrev pub AsksVersion : List (List ℕ) → Type 0

@@ -39,5 +39,5 @@ pub fn print_version<W: Sink, L: Sink>(out: &mut W, log: &mut L) -> Status
         (record { out = W.taken out.old; log = L.taken log.old })
         (record { out = W.taken out.new; log = L.taken log.new }) }
 {
-    print_own("cvr 1.3.0\n", out, log)
+    print_own("cvr 1.4.0\n", out, log)
 }
